@@ -1,0 +1,3 @@
+pub mod Links
+pub mod Streets
+pub mod Judging

@@ -1,0 +1,5 @@
+pub mod Layout
+pub mod Chains
+pub mod Refusal
+pub mod Laws
+pub mod Meaning
