@@ -1,2 +1,3 @@
 pub mod Lowests
 pub mod Scans
+pub mod Verdicts

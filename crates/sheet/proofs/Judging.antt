@@ -7,8 +7,9 @@ use Prim.Native.Nat.{ℕ, _<_, _≤_}
 use native.Mathlib.Omega.{arith}
 use lib.ListN.{length}
 use lib.Dec.{ltb, eqb}
-use Rattle.std.proofs.shelf.Tests.{lt-ltb, not-from-false, ltb-true, ltb-false, eqb-true, eqb-false, eq-eqb, ne-eqb, le-ltb, not-true, not-false, not-from-true, or-from, cond-true, cond-false, cond-both, cases-bool, both-ways}
+use Rattle.std.proofs.shelf.Tests.{lt-ltb, ltb-true, ltb-false, eqb-true, eqb-false, eq-eqb, ne-eqb, le-ltb, or-from, cond-true, cond-false, cond-both, cases-bool, both-ways}
 use Rattle.formats.specs.Bytes.{byteAt}
+use Rattle.formats.proofs.Verdicts.{pass, equal, unequal, agree, differ}
 use Rattle.sheet.specs.Layout.{junctionCount, slotCount, sheetLength, tailAt}
 use Rattle.sheet.specs.Refusal.{badRecord, badLink, outOfRange, refusal}
 use Rattle.sheet.specs.Laws.{in-range}
@@ -21,12 +22,6 @@ range-in bs h =
     or-from (eqb (junctionCount bs) 0 || ltb 128 (junctionCount bs)) (ltb 512 (slotCount bs))
     (or-from (eqb (junctionCount bs) 0) (ltb 128 (junctionCount bs)) (ne-eqb (junctionCount bs) 0 (λ z. let p = h .0 in omega arith)) (le-ltb 128 (junctionCount bs) (h .1)))
     (le-ltb 512 (slotCount bs) (h .2))
-
-unequal : (a b : ℕ) → not (eqb a b) ≡ true → a ≡ b → ⊥
-unequal a b h = eqb-false a b (not-true _ h)
-
-equal : (a b : ℕ) → not (eqb a b) ≡ false → a ≡ b
-equal a b h = eqb-true a b (not-false _ h)
 
 -- each number is returned on its condition
 pub judged : (bs : List ℕ) → Judged bs (refusal bs)
@@ -52,15 +47,6 @@ judged bs =
         (λ f6. admitted frame right (linked bs (equal (badLink bs) 0 f6))))))))
 
 -- ---- and on no other
-pass : (b : Bool) (x y z : ℕ) → b ≡ false → y ≡ z → cond b x y ≡ z
-pass b x y z h e = cond-false b x y h ∙ e
-
-differ : (a b : ℕ) → (a ≡ b → ⊥) → not (eqb a b) ≡ true
-differ a b h = not-from-false _ (ne-eqb a b h)
-
-agree : (a b : ℕ) → a ≡ b → not (eqb a b) ≡ false
-agree a b h = not-from-true _ (eq-eqb a b h)
-
 frame-past : (bs : List ℕ) (n z : ℕ) → Frame bs → n ≡ z → cond (ltb (length bs) 4) 1 (cond (not (eqb (byteAt bs 0) 0x53)) 2 (cond (outOfRange bs) 3 (cond (not (eqb (length bs) (sheetLength bs))) 4 n))) ≡ z
 frame-past bs n z f e =
     pass _ 1 _ z (le-ltb (length bs) 4 (f .long)) (pass _ 2 _ z (agree (byteAt bs 0) 0x53 (f .kind)) (pass _ 3 _ z (range-in bs (f .range)) (pass _ 4 n z (agree (length bs) (sheetLength bs) (f .size)) e)))

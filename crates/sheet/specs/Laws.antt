@@ -6,19 +6,16 @@ use Prim.Native.Nat.{ℕ, _+_, _^_, _<_, _≤_}
 use native.Mathlib.Omega.{arith}
 use lib.ListN.{length}
 use lib.Dec.{leb, ltb, eqb}
-use Rattle.std.proofs.shelf.Tests.{leb-true, ltb-false, eqb-true, eqb-false, not-true, not-false, lt-leb, and-parts, and-left, and-right, or-parts, cond-false}
+use Rattle.std.proofs.shelf.Tests.{leb-true, ltb-false, eqb-false, not-true, lt-leb, and-parts, and-left, and-right, or-parts, cond-false}
 use Rattle.std.specs.declared.option.Option.{Option}
 use Rattle.std.specs.declared.option.Option.the-variants.{Some, None}
 use Rattle.maps.specs.Graph.{Street, Placed, LawfulMap}
 use Rattle.formats.specs.Bytes.{byteAt, fourAt, Bytes}
 use Rattle.formats.specs.Scan.{lowestIn}
 use Rattle.formats.proofs.Scans.{lowestIn-none}
+use Rattle.formats.proofs.Verdicts.{past, equal, placed-if}
 use Rattle.sheet.specs.Layout.{junctionCount, slotCount, sheetLength, slotRecord, tailAt, headAt, lengthAt, filled, streetAt, sheetGraph}
 use Rattle.sheet.specs.Refusal.{blank, wrongRecord, badRecord, badLink, outOfRange, refusal, Framed, Sound}
-
-past : (b : Bool) (k n : ℕ) → 0 < k → cond b k n ≡ 0 → (b ≡ false) × (n ≡ 0)
-past true k n p h = absurd (omega arith)
-past false k n p h = (refl, h)
 
 five-or-six : (b : Bool) → 0 < cond b 5 6
 five-or-six true = omega arith
@@ -47,9 +44,9 @@ passed bs h =
     let f = past (not (eqb (badLink bs) 0)) 7 0 (omega arith) (e .1) in
     let r = in-range bs (c .0) in
     record {
-      frame = (ltb-false (length bs) 4 (a .0), r .0, r .1, r .2, eqb-true (length bs) (sheetLength bs) (not-false _ (d .0)));
-      records = eqb-true (badRecord bs) 0 (not-false _ (e .0));
-      links = eqb-true (badLink bs) 0 (not-false _ (f .0));
+      frame = (ltb-false (length bs) 4 (a .0), r .0, r .1, r .2, equal (length bs) (sheetLength bs) (d .0));
+      records = equal (badRecord bs) 0 (e .0);
+      links = equal (badLink bs) 0 (f .0);
     }
 
 filled-parts : (bs : List ℕ) (e : ℕ) → filled bs e ≡ true → (0 < e) × (e ≤ slotCount bs) × (eqb (tailAt bs e) 0 ≡ false)
@@ -80,10 +77,6 @@ street-placed bs s e h =
     let w = ends-within bs e (p .2) (lowestIn-none (wrongRecord bs) 0 (slotCount bs) (omega arith) (passed bs (s .0) .records) e (p .0) (p .1)) in
     (w .0, w .1, w .2, w .3, four-below bs (s .1) (slotRecord bs e + 2))
 
-by-test : (n : ℕ) (x : Street) (b : Bool) → (b ≡ true → Placed n (Some x)) → Placed n (cond b (Some x) None)
-by-test n x true h = h refl
-by-test n x false h = tt
-
 -- no street above the slot count
 pub street-none : (bs : List ℕ) (e : ℕ) → slotCount bs < e → streetAt bs e ≡ None
 street-none bs e l =
@@ -99,5 +92,5 @@ sheet-lawful bs s =
       few-slots = f .3;
       no-zero = refl;
       no-more = street-none bs;
-      placed = λ e. by-test (junctionCount bs) (tailAt bs e, headAt bs e, lengthAt bs e) (filled bs e) (street-placed bs s e);
+      placed = λ e. placed-if (junctionCount bs) (tailAt bs e, headAt bs e, lengthAt bs e) (filled bs e) (street-placed bs s e);
     }

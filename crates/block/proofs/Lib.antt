@@ -1,0 +1,3 @@
+pub mod Streets
+pub mod Places
+pub mod Judging
