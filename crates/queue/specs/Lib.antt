@@ -1,0 +1,3 @@
+pub mod Heaps
+pub mod Faults
+pub mod Queues

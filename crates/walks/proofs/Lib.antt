@@ -1,0 +1,20 @@
+pub mod Facts
+pub mod Walks
+pub mod Bests
+pub mod Candidates
+pub mod Invariant
+pub mod Complete
+pub mod Counts
+pub mod Ends
+pub mod Filters
+pub mod Runs
+pub mod Trees
+pub mod OneAnswer
+pub mod Unaffected
+pub mod Reversed
+pub mod Pieces
+pub mod Grids
+pub mod Splits
+pub mod Legs
+pub mod Rule
+mod Examples
