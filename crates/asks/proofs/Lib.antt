@@ -1,0 +1,13 @@
+pub mod Counting
+pub mod Heads
+pub mod Numbers
+pub mod Sums
+pub mod Slots
+pub mod Positions
+pub mod Handing
+pub mod Building
+pub mod Following
+pub mod Partial
+pub mod Rounds
+pub mod Redoing
+pub mod Bounds

@@ -1,0 +1,2 @@
+pub mod Drained
+pub mod Three

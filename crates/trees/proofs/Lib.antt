@@ -1,0 +1,5 @@
+pub mod Closed
+pub mod Tables
+pub mod Chains
+pub mod Bounds
+pub mod Candidates

@@ -1,0 +1,5 @@
+pub mod Marks
+pub mod Trees
+pub mod Runs
+pub mod Limited
+pub mod Candidates
