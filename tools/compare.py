@@ -316,8 +316,9 @@ def random_map(rng):
     return data
 
 
-def random_line(rng, n, m):
-    letter = rng.choices("TBCRQNP", (3, 1, 4, 3, 8, 1, 1))[0]
+def random_line(rng, n, m, built):
+    letters = ("CRQNPTB", (5, 4, 10, 2, 1, 0.3, 0.3)) if built else ("TBCRQNP", (3, 3, 0.3, 0.3, 0.3, 0.2, 0.2))
+    letter = rng.choices(*letters)[0]
     top = m if letter in "CR" else n
     numbers = []
     for _ in range(COUNTS[letter]):
@@ -330,6 +331,14 @@ def random_line(rng, n, m):
     return line
 
 
+def random_lines(rng, n, m, count):
+    built, lines = True, []
+    for _ in range(count):
+        lines.append(random_line(rng, n, m, built))
+        built = {b"B": True, b"P": False}.get(lines[-1], built)
+    return lines
+
+
 def random_text(rng, data):
     n, m = (data[1:2] or b"\x01")[0], 20
     if data[:1] == b"\x47" and len(data) > 2:
@@ -339,7 +348,7 @@ def random_text(rng, data):
     lines = [rng.choice((b"paces", b"gates"))] if rng.random() < 0.97 else [rng.choice((b"", b"pace", b"Gates", b"gates\r"))]
     few = rng.sample(range(1, max(2, n + 1)), min(max(1, n), rng.choice((0, 1, 2, 4, 8, 16, 17, 20))))
     lines += [b"T %d" % v for v in few] + [b"B"]
-    lines += [random_line(rng, n, min(m, 600)) for _ in range(rng.choice((0, 5, 40, 200)))]
+    lines += random_lines(rng, n, min(m, 600), rng.choice((0, 5, 40, 200)))
     text = b"\n".join(lines) + (b"\n" if rng.random() < 0.8 else b"")
     if rng.random() < 0.05:
         text = (text * 200)[:rng.choice((0, 4095, 4096, 4097, 5000))]

@@ -32,7 +32,7 @@ range-out bs h = ⊎-elim (λ t. t) (λ f. absurd (h (in-range bs f))) (cases-bo
 
 -- ---- a side leads into the block exactly if a cell of the block lies there
 leads-there : (bs : List ℕ) (r c : ℕ) → r < height bs → c < width bs → (s : Side) → inside bs (junctionAt bs r c) s ≡ true
-  → (r2 : ℕ) × (c2 : ℕ) × Beside s r c r2 c2 × (r2 < height bs) × (c2 < width bs)
+    → (r2 : ℕ) × (c2 : ℕ) × Beside s r c r2 c2 × (r2 < height bs) × (c2 < width bs)
 leads-there bs r c high wide North t =
     let row = row-of bs r c high wide in
     let some = ltb-true 0 (rowOf bs (junctionAt bs r c)) t in

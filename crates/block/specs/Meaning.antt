@@ -30,7 +30,7 @@ InRange bs = (0 < width bs) × (0 < height bs) × (cellCount bs ≤ 128)
 -- each open side leads to a cell of the block
 abbrev pub Walled : List ℕ → Type 0
 Walled bs = (r c : ℕ) (s : Side) → r < height bs → c < width bs → opened bs (junctionAt bs r c) s ≡ true
-  → (r2 : ℕ) × (c2 : ℕ) × Beside s r c r2 c2 × (r2 < height bs) × (c2 < width bs)
+    → (r2 : ℕ) × (c2 : ℕ) × Beside s r c r2 c2 × (r2 < height bs) × (c2 < width bs)
 
 -- the bytes have a block's head, and just the length that it says
 pub record Frame (bs : List ℕ) : Type 0 where
@@ -61,7 +61,7 @@ pub record Says (bs : List ℕ) (g : Graph) : Type 0 where
   pub empty : (r c : ℕ) (s : Side) → r < height bs → c < width bs → opened bs (junctionAt bs r c) s ≡ false → g .street (slotOf (junctionAt bs r c) s) ≡ None
   -- that of an open side leads to the cell there
   pub street : (r c r2 c2 : ℕ) (s : Side) → r < height bs → c < width bs → opened bs (junctionAt bs r c) s ≡ true → Beside s r c r2 c2
-    → g .street (slotOf (junctionAt bs r c) s) ≡ Some (junctionAt bs r c, junctionAt bs r2 c2, 1 + cellAt bs (junctionAt bs r2 c2) / 16)
+      → g .street (slotOf (junctionAt bs r c) s) ≡ Some (junctionAt bs r c, junctionAt bs r2 c2, 1 + cellAt bs (junctionAt bs r2 c2) / 16)
   -- there is no other slot
   pub zero : g .street 0 ≡ None
   pub beyond : (e : ℕ) → 4 * (byteAt bs 1 * byteAt bs 2) < e → g .street e ≡ None

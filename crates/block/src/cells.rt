@@ -5,7 +5,7 @@ ghost use Prim.Native.Nat.{_<_, _≤_, _*_};
 ghost use Rattle.block.specs.Layout.{cellCount, bitOf, ordered, opened, inside, neighbour, streetAt, filled};
 ghost use Rattle.block.specs.Refusal.{Framed, leadsOut, badSide, Sound};
 
-// A side of a cell.
+/// A side of a cell.
 #[derive(Clone, Copy)]
 pub enum Side {
     North,

@@ -25,18 +25,20 @@ use formats::OpenFault;
 use maps::Map;
 use maps::TwoWay;
 
-// A map over the bytes of a block.
+/// A map over the bytes of a block.
 #[derive(Clone, Copy)]
 pub struct Block<'a> {
     bytes: &'a [u8],
     ghost sound: { Sound (now bytes) },
 }
 
-// The least block: one cell with no open side. It is a place to open a block into.
+/// The least block: one cell with no open side. It is a place to open a block into.
 pub fn least_block<'a>() -> Block<'a>
     ensures { λ r. ⌜ (blockGraph (now (r .bytes)) .junctions ≡ 1) × (blockGraph (now (r .bytes)) .slots ≡ 4) ⌝ }
 {
-    Block { bytes: b"\x47\x01\x01\x00" }
+    Block {
+        bytes: b"\x47\x01\x01\x00",
+    }
 }
 
 // Whether the layout admits the bytes, or the first fault in the order of the numbers.
@@ -63,7 +65,7 @@ fn check(bytes: &[u8]) -> Result<(), OpenFault>
     Ok(())
 }
 
-// Fills the place with the block that the bytes hold, or answers why they hold none.
+/// Fills the place with the block that the bytes hold, or answers why they hold none.
 pub fn open_block<'a>(bytes: &'a [u8], place: &mut Block<'a>) -> Result<(), OpenFault>
     ensures number { λ r. ⌜ answered r ≡ refusal (now (bytes .entry)) ⌝ }
     ensures judged { λ r. ⌜ Judged (now (bytes .entry)) (answered r) ⌝ }
@@ -152,7 +154,7 @@ pub impl<'a> TwoWay for Block<'a> as BlockTwoWay {
     }
 }
 
-// The theorem that the refusal numbers mean what the layout says: each is returned on its condition, and on no other.
+/// The theorem that the refusal numbers mean what the layout says: each is returned on its condition, and on no other.
 pub fn block_refusals_mean() -> u8
     ensures { λ _. ⌜ Refusals-mean ⌝ }
 {

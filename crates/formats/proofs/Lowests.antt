@@ -22,7 +22,9 @@ lowest-unique P a None (Some e) h k = absurd (h .gap e (k .above) tt (k .here))
 lowest-unique P a (Some d) None h k = absurd (k .gap d (h .above) tt (h .here))
 lowest-unique P a (Some d) (Some e) h k =
     elim (decLt d e) [
-        yes l ↦ absurd (k .gap d (h .above) l (h .here))
+      | yes l ↦ absurd (k .gap d (h .above) l (h .here))
       | no p ↦ elim (decLt e d) [
-          yes l ↦ absurd (h .gap e (k .above) l (k .here))
-        | no q ↦ let same : d ≡ e = omega arith in ap Some same ] ]
+        | yes l ↦ absurd (h .gap e (k .above) l (k .here))
+        | no q ↦ let same : d ≡ e = omega arith in ap Some same
+      ]
+    ]

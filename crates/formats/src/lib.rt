@@ -2,35 +2,31 @@
 //
 // Each fault is one numbered reason to refuse a file, defined in specs/Faults. Nothing here knows a format.
 ghost use mathlib.Core.Path.{_≡_};
-ghost use Prim.Native.Nat.{_+_, _≤_};
-ghost use lib.ListN.{length};
-ghost use Rattle.formats.specs.Bytes.{byteAt, twoAt, fourAt};
 ghost use Rattle.formats.specs.Faults.{numberOf};
-ghost use Rattle.formats.specs.Scan.{optional};
 
-// Why bytes are refused as a map file.
+/// Why bytes are refused as a map file.
 #[derive(Clone, Copy, PartialEq, Eq, Debug)]
 pub enum OpenFault {
-    // Too few bytes to have a head.
+    /// Too few bytes to have a head.
     Short,
-    // The first byte is another format's.
+    /// The first byte is another format's.
     FirstByte,
-    // A count, width or height is out of range.
+    /// A count, width or height is out of range.
     Range,
-    // The length is not exact.
+    /// The length is not exact.
     Size,
-    // A slot record with tail 0 has another byte that is not 0.
+    /// A slot record with tail 0 has another byte that is not 0.
     NotEmpty,
-    // A slot record has an end off the map.
+    /// A slot record has an end off the map.
     Ends,
-    // A link does not hold what the map call of its name answers.
+    /// A link does not hold what the map call of its name answers.
     Link,
-    // A side at the block's edge is open.
+    /// A side at the block's edge is open.
     Edge,
 }
 
 impl OpenFault {
-    // The number of the refusal.
+    /// The number of the refusal.
     pub fn number(self) -> u8
         ensures { λ r. ⌜ r ≡ numberOf self ⌝ }
     {
@@ -46,4 +42,3 @@ impl OpenFault {
         }
     }
 }
-

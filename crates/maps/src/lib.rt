@@ -10,45 +10,45 @@ ghost use Rattle.std.specs.Orderings.{Decides};
 ghost use Rattle.maps.specs.Graph.{Graph, EqualStreets, tailOf, headOf, Leaves, Enters, Lowest, LawfulMap, reversed};
 ghost use Rattle.maps.specs.Laws.{reversed-lawful};
 
-// A map of one-way streets.
+/// A map of one-way streets.
 pub trait Map {
     ghost graph: { Self → Graph };
 
     ghost lawful: { (x : Self) → LawfulMap (graph x) };
 
-    // How many junctions there are.
+    /// How many junctions there are.
     fn junctions(&self) -> u16
         ensures { λ r. ⌜ r ≡ graph (now (self .entry)) .junctions ⌝ };
 
-    // How many slots there are, empty ones included.
+    /// How many slots there are, empty ones included.
     fn slots(&self) -> u16
         ensures { λ r. ⌜ r ≡ graph (now (self .entry)) .slots ⌝ };
 
-    // Tail, head and length of the street in slot e; absent if e is 0, above the slot count or an empty slot.
+    /// Tail, head and length of the street in slot e; absent if e is 0, above the slot count or an empty slot.
     fn slot(&self, e: u16) -> Option<(u16, u16, u32)>
         ensures { λ r. ⌜ r ≡ graph (now (self .entry)) .street e ⌝ };
 
-    // The lowest street whose tail is v.
+    /// The lowest street whose tail is v.
     fn first_leaving(&self, v: u16) -> Option<u16>
         ensures { λ r. ⌜ Lowest (Leaves (graph (now (self .entry))) v) 0 r ⌝ };
 
-    // The lowest street above e with the tail of e; none for an absent e.
+    /// The lowest street above e with the tail of e; none for an absent e.
     fn next_leaving(&self, e: u16) -> Option<u16>
         ensures { λ r. ⌜ Lowest (Leaves (graph (now (self .entry))) (tailOf (graph (now (self .entry)) .street e))) e r ⌝ };
 }
 
-// A map that is also followed against its streets.
+/// A map that is also followed against its streets.
 pub trait TwoWay: Map {
-    // The lowest street whose head is v.
+    /// The lowest street whose head is v.
     fn first_entering(&self, v: u16) -> Option<u16>
         ensures { λ r. ⌜ Lowest (Enters (Self·Map .graph (now (self .entry))) v) 0 r ⌝ };
 
-    // The lowest street above e with the head of e; none for an absent e.
+    /// The lowest street above e with the head of e; none for an absent e.
     fn next_entering(&self, e: u16) -> Option<u16>
         ensures { λ r. ⌜ Lowest (Enters (Self·Map .graph (now (self .entry))) (headOf (Self·Map .graph (now (self .entry)) .street e))) e r ⌝ };
 }
 
-// The same map with every street the other way round.
+/// The same map with every street the other way round.
 #[derive(Drop)]
 pub struct Reversed<'a, M: TwoWay> {
     pub map: &'a M,
@@ -93,7 +93,7 @@ pub impl<'a, M: TwoWay> TwoWay for Reversed<'a, M> as ReversedTwoWay {
     }
 }
 
-// Whether each slot number answers alike in both maps.
+/// Whether each slot number answers alike in both maps.
 pub fn equal_streets<M: Map, N: Map>(a: &M, b: &N) -> bool
     ensures { λ r. ⌜ Decides r (EqualStreets (M·Map .graph (now (a .entry))) (N·Map .graph (now (b .entry)))) ⌝ }
 {

@@ -36,15 +36,15 @@ judged bs =
     let frame : Frame bs = record { long = long; kind = kind; range = range; size = equal (length bs) (sheetLength bs) f4 } in
     cond-both (not (eqb (badRecord bs) 0)) (cond (eqb (tailAt bs (badRecord bs)) 0) 5 6) _ (Judged bs)
     (λ t.
-        let w = first-wrong bs (unequal (badRecord bs) 0 t) in
-        cond-both (eqb (tailAt bs (badRecord bs)) 0) 5 6 (Judged bs)
-        (λ z. unempty frame (badRecord bs) w (eqb-true (tailAt bs (badRecord bs)) 0 z))
-        (λ z. unended frame (badRecord bs) w (eqb-false (tailAt bs (badRecord bs)) 0 z)))
+    let w = first-wrong bs (unequal (badRecord bs) 0 t) in
+    cond-both (eqb (tailAt bs (badRecord bs)) 0) 5 6 (Judged bs)
+    (λ z. unempty frame (badRecord bs) w (eqb-true (tailAt bs (badRecord bs)) 0 z))
+    (λ z. unended frame (badRecord bs) w (eqb-false (tailAt bs (badRecord bs)) 0 z)))
     (λ f5.
-        let right = all-right bs (equal (badRecord bs) 0 f5) in
-        cond-both (not (eqb (badLink bs) 0)) 7 0 (Judged bs)
-        (λ t. unlinked frame right (λ l. unequal (badLink bs) 0 t (linked-none bs l)))
-        (λ f6. admitted frame right (linked bs (equal (badLink bs) 0 f6))))))))
+    let right = all-right bs (equal (badRecord bs) 0 f5) in
+    cond-both (not (eqb (badLink bs) 0)) 7 0 (Judged bs)
+    (λ t. unlinked frame right (λ l. unequal (badLink bs) 0 t (linked-none bs l)))
+    (λ f6. admitted frame right (linked bs (equal (badLink bs) 0 f6))))))))
 
 -- ---- and on no other
 frame-past : (bs : List ℕ) (n z : ℕ) → Frame bs → n ≡ z → cond (ltb (length bs) 4) 1 (cond (not (eqb (byteAt bs 0) 0x53)) 2 (cond (outOfRange bs) 3 (cond (not (eqb (length bs) (sheetLength bs))) 4 n))) ≡ z

@@ -47,7 +47,7 @@ lowest-on bs c v a =
     let g = sheetGraph bs in
     lowest-map (on-fact g c v) (on-chain g c v)
     (lowestIn-of-all (onChain g c v) a (g .slots)
-        (λ k hi t. let o = on-fact g c v k t in let z = end-absent c (g .street k) (street-none bs k hi) in omega arith))
+    (λ k hi t. let o = on-fact g c v k t in let z = end-absent c (g .street k) (street-none bs k hi) in omega arith))
 
 -- no chain runs at a junction off the map
 end-few : (n : ℕ) (c : Chain) (o : Option Street) → Placed n o → endOf c o ≤ n
@@ -68,7 +68,7 @@ module _ (bs : List ℕ) (right : badLink bs ≡ 0) where
   link-right : (c : Chain) (r : ℕ) → 0 < r → r ≤ junctionCount bs + slotCount bs → wrongLink bs c r ≡ false
   link-right c r lo hi =
       let p = or-parts (wrongLink bs Leaving r) (wrongLink bs Entering r)
-              (lowestIn-none (wrongLinks bs) 0 (junctionCount bs + slotCount bs) (omega arith) right r lo hi) in
+      (lowestIn-none (wrongLinks bs) 0 (junctionCount bs + slotCount bs) (omega arith) right r lo hi) in
       elim c as (λ c. wrongLink bs c r ≡ false) [ Leaving ↦ p .0 | Entering ↦ p .1 ]
 
   first-right : (c : Chain) (v : ℕ) → 0 < v → v ≤ junctionCount bs → firstLink bs c v ≡ lowestOn (sheetGraph bs) c v 0
@@ -114,20 +114,22 @@ module _ (bs : List ℕ) (l : Linked bs) where
   unfolding wrongLink
   right-link c r lo hi =
       elim (decLe r (junctionCount bs)) [
-          yes p ↦ cond-true (leb r (junctionCount bs)) _ _ (le-leb r (junctionCount bs) p) ∙ not-from-true _ (one-link c r 0 (firstLink bs c r) (l .first c r lo p))
+        | yes p ↦ cond-true (leb r (junctionCount bs)) _ _ (le-leb r (junctionCount bs) p) ∙ not-from-true _ (one-link c r 0 (firstLink bs c r) (l .first c r lo p))
         | no q ↦
             let e = r - junctionCount bs in
             cond-false (leb r (junctionCount bs)) _ _ (lt-leb r (junctionCount bs) (omega arith))
-            ∙ not-from-true _ (one-link c (endOf c (streetAt bs e)) e (nextLink bs c e) (l .next c e (omega arith) (omega arith))) ]
+            ∙ not-from-true _ (one-link c (endOf c (streetAt bs e)) e (nextLink bs c e) (l .next c e (omega arith) (omega arith)))
+      ]
 
   pub linked-none : badLink bs ≡ 0
   linked-none =
       let m = junctionCount bs + slotCount bs in
       elim (decLe (badLink bs) 0) [
-          yes p ↦ omega arith
+        | yes p ↦ omega arith
         | no q ↦
             let lo : 0 < badLink bs = omega arith in
             let found = lowestIn-found (wrongLinks bs) 0 m (omega arith) lo in
             let f = right-link Leaving (badLink bs) lo (found .0) in
             let g = right-link Entering (badLink bs) lo (found .0) in
-            absurd (both-ways _ (or-from (wrongLink bs Leaving (badLink bs)) (wrongLink bs Entering (badLink bs)) f g) (found .1)) ]
+            absurd (both-ways _ (or-from (wrongLink bs Leaving (badLink bs)) (wrongLink bs Entering (badLink bs)) f g) (found .1))
+      ]

@@ -23,8 +23,9 @@ blank-each bs i zero h j l = absurd (omega arith)
 blank-each bs i (suc k) h j l =
     let p = and-parts (blank bs i k) (eqb (byteAt bs (i + k)) 0) h in
     elim (ℕ-discrete j k) [
-        yes e ↦ ap (λ x. byteAt bs (i + x)) e ∙ eqb-true (byteAt bs (i + k)) 0 (p .1)
-      | no n ↦ blank-each bs i k (p .0) j (omega arith) ]
+      | yes e ↦ ap (λ x. byteAt bs (i + x)) e ∙ eqb-true (byteAt bs (i + k)) 0 (p .1)
+      | no n ↦ blank-each bs i k (p .0) j (omega arith)
+    ]
 
 each-blank : (bs : List ℕ) (i k : ℕ) → ((j : ℕ) → j < k → byteAt bs (i + j) ≡ 0) → blank bs i k ≡ true
 each-blank bs i zero h = refl
@@ -44,11 +45,11 @@ unfolding wrongRecord
 right-record bs e =
     ⊎-elim
     (λ m. cond-true (eqb (tailAt bs e) 0) _ _ (eq-eqb (tailAt bs e) 0 (ap (byteAt bs) (sym (add-zero (slotRecord bs e))) ∙ m 0 (omega arith)))
-        ∙ not-from-true _ (each-blank bs (slotRecord bs e) 10 m))
+    ∙ not-from-true _ (each-blank bs (slotRecord bs e) 10 m))
     (λ d. cond-false (eqb (tailAt bs e) 0) _ _ (ne-eqb (tailAt bs e) 0 (λ z. let p = d .0 in omega arith))
-        ∙ or-from (ltb (junctionCount bs) (tailAt bs e) || eqb (headAt bs e) 0) (ltb (junctionCount bs) (headAt bs e))
-            (or-from (ltb (junctionCount bs) (tailAt bs e)) (eqb (headAt bs e) 0) (le-ltb (junctionCount bs) (tailAt bs e) (d .1)) (ne-eqb (headAt bs e) 0 (λ z. let p = d .2 in omega arith)))
-            (le-ltb (junctionCount bs) (headAt bs e) (d .3)))
+    ∙ or-from (ltb (junctionCount bs) (tailAt bs e) || eqb (headAt bs e) 0) (ltb (junctionCount bs) (headAt bs e))
+    (or-from (ltb (junctionCount bs) (tailAt bs e)) (eqb (headAt bs e) 0) (le-ltb (junctionCount bs) (tailAt bs e) (d .1)) (ne-eqb (headAt bs e) 0 (λ z. let p = d .2 in omega arith)))
+    (le-ltb (junctionCount bs) (headAt bs e) (d .3)))
 
 module _ (bs : List ℕ) where
   pub first-wrong : (badRecord bs ≡ 0 → ⊥) → FirstWrong bs (badRecord bs)
@@ -73,16 +74,17 @@ module _ (bs : List ℕ) where
   pub wrong-first : (e : ℕ) → FirstWrong bs e → badRecord bs ≡ e
   wrong-first e w =
       elim (ℕ-discrete (badRecord bs) 0) [
-          yes z ↦ absurd (w .wrong (all-right z e (w .some) (w .within)))
+        | yes z ↦ absurd (w .wrong (all-right z e (w .some) (w .within)))
         | no n ↦
             let v = first-wrong n in
-            ⊎-elim (λ same. same) (⊎-elim (λ l. absurd (v .wrong (w .before (badRecord bs) (v .some) l))) (λ l. absurd (w .wrong (v .before e (w .some) l)))) (cases-order (badRecord bs) e) ]
+            ⊎-elim (λ same. same) (⊎-elim (λ l. absurd (v .wrong (w .before (badRecord bs) (v .some) l))) (λ l. absurd (w .wrong (v .before e (w .some) l)))) (cases-order (badRecord bs) e)
+      ]
 
   -- the map of the bytes is the one that they say
   pub says : Says bs (sheetGraph bs)
   says =
       let shown : (e : ℕ) (b : Bool) → filled bs e ≡ b → sheetGraph bs .street e ≡ cond b (Some (tailAt bs e, headAt bs e, lengthAt bs e)) None =
-          λ e b. ap (λ t. cond t (Some (tailAt bs e, headAt bs e, lengthAt bs e)) None) in
+      λ e b. ap (λ t. cond t (Some (tailAt bs e, headAt bs e, lengthAt bs e)) None) in
       record {
         junctions = refl;
         slots = refl;

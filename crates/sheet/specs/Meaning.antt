@@ -75,7 +75,7 @@ pub record Says (bs : List ℕ) (g : Graph) : Type 0 where
   -- a record whose tail is 0 is an empty slot; any other holds its tail, its head and its length
   pub empty : (e : ℕ) → 0 < e → e ≤ twoAt bs 2 → byteAt bs (slotRecord bs e) ≡ 0 → g .street e ≡ None
   pub street : (e : ℕ) → 0 < e → e ≤ twoAt bs 2 → (byteAt bs (slotRecord bs e) ≡ 0 → ⊥)
-    → g .street e ≡ Some (byteAt bs (slotRecord bs e), byteAt bs (slotRecord bs e + 1), fourAt bs (slotRecord bs e + 2))
+      → g .street e ≡ Some (byteAt bs (slotRecord bs e), byteAt bs (slotRecord bs e + 1), fourAt bs (slotRecord bs e + 2))
   -- there is no other slot
   pub zero : g .street 0 ≡ None
   pub beyond : (e : ℕ) → twoAt bs 2 < e → g .street e ≡ None

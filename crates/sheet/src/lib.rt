@@ -32,18 +32,20 @@ use records::slot_count;
 use records::street_at;
 use records::tail_at;
 
-// A map over the bytes of a sheet.
+/// A map over the bytes of a sheet.
 #[derive(Clone, Copy)]
 pub struct Sheet<'a> {
     bytes: &'a [u8],
     ghost sound: { Sound (now bytes) },
 }
 
-// The least sheet: one junction, no slots. It is a place to open a sheet into.
+/// The least sheet: one junction, no slots. It is a place to open a sheet into.
 pub fn least_sheet<'a>() -> Sheet<'a>
     ensures { λ r. ⌜ (sheetGraph (now (r .bytes)) .junctions ≡ 1) × (sheetGraph (now (r .bytes)) .slots ≡ 0) ⌝ }
 {
-    Sheet { bytes: b"\x53\x01\x00\x00\x00\x00\x00\x00" }
+    Sheet {
+        bytes: b"\x53\x01\x00\x00\x00\x00\x00\x00",
+    }
 }
 
 // Whether the layout admits the bytes, or the first fault in the order of the numbers.
@@ -66,7 +68,11 @@ fn check(bytes: &[u8]) -> Result<(), OpenFault>
     }
     let e = first_bad_record(bytes);
     if e != 0 {
-        return if tail_at(bytes, e) == 0 { Err(OpenFault::NotEmpty) } else { Err(OpenFault::Ends) };
+        return if tail_at(bytes, e) == 0 {
+            Err(OpenFault::NotEmpty)
+        } else {
+            Err(OpenFault::Ends)
+        };
     }
     if first_bad_link(bytes) != 0 {
         return Err(OpenFault::Link);
@@ -74,7 +80,7 @@ fn check(bytes: &[u8]) -> Result<(), OpenFault>
     Ok(())
 }
 
-// Fills the place with the sheet that the bytes hold, or answers why they hold none.
+/// Fills the place with the sheet that the bytes hold, or answers why they hold none.
 pub fn open_sheet<'a>(bytes: &'a [u8], place: &mut Sheet<'a>) -> Result<(), OpenFault>
     ensures number { λ r. ⌜ answered r ≡ refusal (now (bytes .entry)) ⌝ }
     ensures judged { λ r. ⌜ Judged (now (bytes .entry)) (answered r) ⌝ }
@@ -156,7 +162,7 @@ pub impl<'a> TwoWay for Sheet<'a> as SheetTwoWay {
     }
 }
 
-// The theorem that the refusal numbers mean what the layout says: each is returned on its condition, and on no other.
+/// The theorem that the refusal numbers mean what the layout says: each is returned on its condition, and on no other.
 pub fn sheet_refusals_mean() -> u8
     ensures { λ _. ⌜ Refusals-mean ⌝ }
 {

@@ -7,7 +7,7 @@ ghost use Rattle.sheet.specs.Layout.{junctionCount, slotCount, slotRecord, tai
 ghost use Rattle.sheet.specs.Chains.{linkPlace, firstLink, nextLink, endOf};
 ghost use Rattle.sheet.specs.Refusal.{Framed};
 
-// Which of a junction's two chains of streets: those that leave it, or those that enter it.
+/// Which of a junction's two chains of streets: those that leave it, or those that enter it.
 #[derive(Clone, Copy)]
 pub enum Chain {
     Leaving,
@@ -66,7 +66,11 @@ pub(crate) fn street_at(bytes: &[u8], e: usize) -> Option<(u16, u16, u32)>
     if bytes[at] == 0 {
         return None;
     }
-    Some((bytes[at] as u16, bytes[at + 1] as u16, read_four(bytes, at + 2)))
+    Some((
+        bytes[at] as u16,
+        bytes[at + 1] as u16,
+        read_four(bytes, at + 2),
+    ))
 }
 
 // The junction at which the chain of slot e runs, 0 where the slot is absent.

@@ -22,10 +22,12 @@ returns-then-head-v c =
 pub loop-e-again : need.loop-e-again
 loop-e-again c k lo hi l =
     elim (decLt k (c .loop-e .e)) [
-        yes lt ↦ c .loop-e .inv k lo lt l
+      | yes lt ↦ c .loop-e .inv k lo lt l
       | no ge ↦
           let same : k ≡ c .loop-e .e = omega arith in
           let here = subst (Enters (blockGraph (c .args .bytes .now)) (c .args .v)) same l in
           elim (c .match-street-at .came) [
-              in-Some·else-head-v w ↦ w .if-head-v .left (ap headOf (w .in-Some .ensures tt) ∙ here .1)
-            | in-rest w ↦ let none : 0 ≡ c .args .v = ap headOf (w .in-rest .ensures tt) ∙ here .1 in omega (arith, here .0) ] ]
+            | in-Some·else-head-v w ↦ w .if-head-v .left (ap headOf (w .in-Some .ensures tt) ∙ here .1)
+            | in-rest w ↦ let none : 0 ≡ c .args .v = ap headOf (w .in-rest .ensures tt) ∙ here .1 in omega (arith, here .0)
+          ]
+    ]

@@ -17,7 +17,7 @@ loop-e-again c =
     let bs = c .args .bytes .now in
     let s : c .loop-e .e ≡ c .loop-e .e + 1 - 1 = omega arith in
     c .loop-e .inv ∙ lowestIn-past (leadsOut bs) (c .loop-e .e) (4 * cellCount bs) (omega arith) (omega arith) (sym (c .leads-out .ensures) ∙ c .if-leads-out .left)
-        ∙ ap (λ x. lowestIn (leadsOut bs) x (4 * cellCount bs)) s
+    ∙ ap (λ x. lowestIn (leadsOut bs) x (4 * cellCount bs)) s
 
 pub returns : need.returns
 returns c =

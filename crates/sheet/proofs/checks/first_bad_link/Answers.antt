@@ -16,9 +16,10 @@ returns-then-is-wrong-link c =
     let bs = c .args .bytes .now in
     let r = c .loop-r .r in
     let t : wrongLinks bs r ≡ true =
-        elim (c .then-is-wrong-link .came) [
-            then-is-wrong-link·by·then-is-wrong-link w ↦ or-left (wrongLink bs Leaving r) (wrongLink bs Entering r) (sym (c .is-wrong-link .ensures) ∙ w .if-is-wrong-link .taken)
-          | then-is-wrong-link·by·else-is-wrong-link·then-is-wrong-link-2 w ↦ or-right (wrongLink bs Leaving r) (wrongLink bs Entering r) (sym (w .is-wrong-link-else-is-wrong-link .ensures) ∙ w .if-is-wrong-link-2 .taken) ] in
+    elim (c .then-is-wrong-link .came) [
+      | then-is-wrong-link·by·then-is-wrong-link w ↦ or-left (wrongLink bs Leaving r) (wrongLink bs Entering r) (sym (c .is-wrong-link .ensures) ∙ w .if-is-wrong-link .taken)
+      | then-is-wrong-link·by·else-is-wrong-link·then-is-wrong-link-2 w ↦ or-right (wrongLink bs Leaving r) (wrongLink bs Entering r) (sym (w .is-wrong-link-else-is-wrong-link .ensures) ∙ w .if-is-wrong-link-2 .taken)
+    ] in
     sym (c .loop-r .inv ∙ lowestIn-hit (wrongLinks bs) r (junctionCount bs + slotCount bs) (omega arith) (omega arith) t)
 
 pub loop-r-again : need.loop-r-again
@@ -26,10 +27,10 @@ loop-r-again c =
     let bs = c .args .bytes .now in
     let r = c .loop-r .r in
     let f : wrongLinks bs r ≡ false =
-        or-from (wrongLink bs Leaving r) (wrongLink bs Entering r) (sym (c .is-wrong-link .ensures) ∙ c .if-is-wrong-link .left) (sym (c .is-wrong-link-else-is-wrong-link .ensures) ∙ c .if-is-wrong-link-2 .left) in
+    or-from (wrongLink bs Leaving r) (wrongLink bs Entering r) (sym (c .is-wrong-link .ensures) ∙ c .if-is-wrong-link .left) (sym (c .is-wrong-link-else-is-wrong-link .ensures) ∙ c .if-is-wrong-link-2 .left) in
     let s : r ≡ r + 1 - 1 = omega arith in
     c .loop-r .inv ∙ lowestIn-past (wrongLinks bs) r (junctionCount bs + slotCount bs) (omega arith) (omega arith) f
-        ∙ ap (λ x. lowestIn (wrongLinks bs) x (junctionCount bs + slotCount bs)) s
+    ∙ ap (λ x. lowestIn (wrongLinks bs) x (junctionCount bs + slotCount bs)) s
 
 pub returns : need.returns
 returns c =

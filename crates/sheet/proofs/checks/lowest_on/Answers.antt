@@ -20,12 +20,13 @@ pub loop-k-again : need.loop-k-again
 loop-k-again c =
     let g = sheetGraph (c .args .bytes .now) in
     let f : onChain g (c .args .chain) (c .args .v) (c .loop-k .k) ≡ false =
-        elim (c .else-v-gt0 .came) [
-            else-v-gt0·by·then-v-gt0·else-end-of-v w ↦ off-other g (c .args .chain) (c .args .v) (c .loop-k .k) (λ e. w .if-end-of-v .left (w .end-of .ensures ∙ e))
-          | else-v-gt0·by·else-v-gt0 w ↦ off-zero g (c .args .chain) (c .args .v) (c .loop-k .k) (w .if-v-gt0 .left) ] in
+    elim (c .else-v-gt0 .came) [
+      | else-v-gt0·by·then-v-gt0·else-end-of-v w ↦ off-other g (c .args .chain) (c .args .v) (c .loop-k .k) (λ e. w .if-end-of-v .left (w .end-of .ensures ∙ e))
+      | else-v-gt0·by·else-v-gt0 w ↦ off-zero g (c .args .chain) (c .args .v) (c .loop-k .k) (w .if-v-gt0 .left)
+    ] in
     let s : c .loop-k .k ≡ c .loop-k .k + 1 - 1 = omega arith in
     c .loop-k .inv ∙ lowestIn-past (onChain g (c .args .chain) (c .args .v)) (c .loop-k .k) (g .slots) (omega arith) (omega arith) f
-        ∙ ap (lowestOn g (c .args .chain) (c .args .v)) s
+    ∙ ap (lowestOn g (c .args .chain) (c .args .v)) s
 
 pub returns : need.returns
 returns c =
