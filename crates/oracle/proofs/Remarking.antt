@@ -45,9 +45,10 @@ absent-some : (o : Option Street) → o ≡ None → isSome o ≡ true → ⊥
 absent-some o z p = true≢false (sym p ∙ ap isSome z)
 
 pub street-slot : (G : Graph) → LawfulMap G → (e : ℕ) → isSome (G .street e) ≡ true → (0 < e) × (e ≤ 512)
-street-slot G law e p =
-    (elim (decLe 1 e) [ yes lo ↦ lo | no n ↦ absurd (absent-some (G .street e) (let z : e ≡ 0 = omega arith in ap (G .street) z ∙ law .no-zero) p) ],
-     elim (decLe e (G .slots)) [ yes hi ↦ let few = law .few-slots in omega arith | no n ↦ absurd (absent-some (G .street e) (law .no-more e (omega arith)) p) ])
+street-slot G law e p = (
+  elim (decLe 1 e) [ yes lo ↦ lo | no n ↦ absurd (absent-some (G .street e) (let z : e ≡ 0 = omega arith in ap (G .street) z ∙ law .no-zero) p) ],
+  elim (decLe e (G .slots)) [ yes hi ↦ let few = law .few-slots in omega arith | no n ↦ absurd (absent-some (G .street e) (law .no-more e (omega arith)) p) ],
+)
 
 -- ---- when there is no fault
 pub close-free : (G : Graph) (F : ℕ → Bool) (e : ℕ) → isSome (G .street e) ≡ true → F e ≡ false → closeFault G F e ≡ None
@@ -114,7 +115,7 @@ module _ (K : Kind) (lawK : LawfulKind K) (G : Graph) (lawG : LawfulMap G) (x : 
 
   -- the counts after close are those of the marks after it, and likewise after reopen
   raised-count : closedOf x e ≡ false → (new : List TreeRecord) → Raised (holdersIn (x .holders) e) (x .trees) new → (i : ℕ) → 0 < i → i ≤ x .named
-    → countIn new i ≡ closedHeld (marked (closedOf x) e true) (treeAt K G (transitOf x) i) (G .junctions)
+      → countIn new i ≡ closedHeld (marked (closedOf x) e true) (treeAt K G (transitOf x) i) (G .junctions)
   raised-count shut new r i some few =
       let is = fits .stored .counts i some few in
       let more = r .counts i some in
@@ -124,7 +125,7 @@ module _ (K : Kind) (lawK : LawfulKind K) (G : Graph) (lawG : LawfulMap G) (x : 
       (cases-bool (member (holdersIn (x .holders) e) i))
 
   lowered-count : closedOf x e ≡ true → (new : List TreeRecord) → Raised (holdersIn (x .holders) e) new (x .trees) → (i : ℕ) → 0 < i → i ≤ x .named
-    → countIn new i ≡ closedHeld (marked (closedOf x) e false) (treeAt K G (transitOf x) i) (G .junctions)
+      → countIn new i ≡ closedHeld (marked (closedOf x) e false) (treeAt K G (transitOf x) i) (G .junctions)
   lowered-count shut new r i some few =
       let is = fits .stored .counts i some few in
       let more = r .counts i some in
@@ -142,7 +143,7 @@ module _ (K : Kind) (lawK : LawfulKind K) (G : Graph) (lawG : LawfulMap G) (x : 
     marks-after = set-closed (x .closed) e b lo (omega arith)
 
     pub remarked-fits : FitsMap G (momentOf true remarked) → ((i : ℕ) → getD new i noRecord .tree ≡ getD (x .trees) i noRecord .tree)
-      → ((i : ℕ) → 0 < i → i ≤ x .named → countIn new i ≡ closedHeld (marked (closedOf x) e b) (treeAt K G (transitOf x) i) (G .junctions)) → IndexFits K G remarked
+        → ((i : ℕ) → 0 < i → i ≤ x .named → countIn new i ≡ closedHeld (marked (closedOf x) e b) (treeAt K G (transitOf x) i) (G .junctions)) → IndexFits K G remarked
     remarked-fits moment trees counts = record {
       plan = record { few = fits .plan .few; moment = fits-built G true false remarked moment };
       stored = record {
@@ -156,22 +157,22 @@ module _ (K : Kind) (lawK : LawfulKind K) (G : Graph) (lawG : LawfulMap G) (x : 
     }
 
   pub closed-fits : (new : List TreeRecord) (marks : length (x .closed) ≡ 512) → closedOf x e ≡ false → Raised (holdersIn (x .holders) e) (x .trees) new
-    → FitsMap G (momentOf true (remarked true new marks)) → IndexFits K G (remarked true new marks)
+      → FitsMap G (momentOf true (remarked true new marks)) → IndexFits K G (remarked true new marks)
   closed-fits new marks shut r moment = remarked-fits true new marks moment (r .trees) (raised-count shut new r)
 
   pub reopened-fits : (new : List TreeRecord) (marks : length (x .closed) ≡ 512) → closedOf x e ≡ true → Raised (holdersIn (x .holders) e) new (x .trees)
-    → FitsMap G (momentOf true (remarked false new marks)) → IndexFits K G (remarked false new marks)
+      → FitsMap G (momentOf true (remarked false new marks)) → IndexFits K G (remarked false new marks)
   reopened-fits new marks shut r moment = remarked-fits false new marks moment (λ i. sym (r .trees i)) (lowered-count shut new r)
 
   -- the moment after
   pub closed-moment : (new : List TreeRecord) (marks : length (x .closed) ≡ 512) → isSome (G .street e) ≡ true → closedOf x e ≡ false
-    → momentOf true (remarked true new marks) ≡ after G (momentOf true x) (Close e)
+      → momentOf true (remarked true new marks) ≡ after G (momentOf true x) (Close e)
   closed-moment new marks p shut =
       ap (λ F. record { built = true; listed = transitOf x; closed = F; tally = x .tally }) (marks-after true new marks)
       ∙ ap (λ o. unless o (momentOf true x) (withMark (momentOf true x) e true)) (sym (close-free G (closedOf x) e p shut))
 
   pub reopened-moment : (new : List TreeRecord) (marks : length (x .closed) ≡ 512) → isSome (G .street e) ≡ true → closedOf x e ≡ true
-    → momentOf true (remarked false new marks) ≡ after G (momentOf true x) (Reopen e)
+      → momentOf true (remarked false new marks) ≡ after G (momentOf true x) (Reopen e)
   reopened-moment new marks p shut =
       ap (λ F. record { built = true; listed = transitOf x; closed = F; tally = x .tally }) (marks-after false new marks)
       ∙ ap (λ o. unless o (momentOf true x) (withMark (momentOf true x) e false)) (sym (reopen-free G (closedOf x) e p shut))

@@ -22,13 +22,7 @@ fn closed_entry(entry: Option<(u16, u64)>, closed: &[bool; 512]) -> u16
     ensures bound { λ r. ⌜ r ≤ 1 ⌝ }
 {
     match entry {
-        Some((slot, _)) => {
-            if is_closed(closed, slot) {
-                1
-            } else {
-                0
-            }
-        }
+        Some((slot, _)) => { if is_closed(closed, slot) { 1 } else { 0 } }
         None => 0,
     }
 }

@@ -118,7 +118,11 @@ impl<M: TwoWay, K: Zeroed> Index<M, K> {
         ensures same { λ r. ⌜ r .map ≡ self .map ⌝ }
         ensures moment { λ r. ⌜ momentOf false (r .tables) ≡ after (M·Map .graph (self .map)) (momentOf true (self .tables)) Replan ⌝ }
     {
-        let Index { map, mut tables, kind } = self;
+        let Index {
+            map,
+            mut tables,
+            kind,
+        } = self;
         tables.named = 0;
         Plan { map, tables, kind }
     }
@@ -127,7 +131,11 @@ impl<M: TwoWay, K: Zeroed> Index<M, K> {
     pub fn into_map(self) -> M
         ensures { λ r. ⌜ r ≡ self .map ⌝ }
     {
-        let Index { map, tables: _, kind: _ } = self;
+        let Index {
+            map,
+            tables: _,
+            kind: _,
+        } = self;
         map
     }
 }

@@ -13,8 +13,8 @@ use crate::tables::Holders;
 use crate::tables::Tables;
 use crate::tables::TreeRecord;
 use calls::Fault;
-use lengths::Zeroed;
 use legs::LegTable;
+use lengths::Zeroed;
 use maps::TwoWay;
 use std::marker::PhantomData;
 use trees::BoundedTree;
@@ -49,9 +49,15 @@ fn new_tables() -> Tables
         transit: [0; 16],
         named: 0,
         tally: 0,
-        trees: [TreeRecord { tree: BoundedTree::empty(), closed: 0 }; 16],
+        trees: [TreeRecord {
+            tree: BoundedTree::empty(),
+            closed: 0,
+        }; 16],
         legs: LegTable::new(0),
-        holders: [Holders { positions: [0; 16], count: 0 }; 512],
+        holders: [Holders {
+            positions: [0; 16],
+            count: 0,
+        }; 512],
     }
 }
 
@@ -62,7 +68,11 @@ impl<M: TwoWay, K: Zeroed> Plan<M, K> {
         ensures moment { λ r. ⌜ momentOf false (r .tables) ≡ created ⌝ }
         ensures fits { λ r. ⌜ PlanFits (M·Map .graph map) (r .tables) ⌝ }
     {
-        Plan { map, tables: new_tables(), kind: PhantomData }
+        Plan {
+            map,
+            tables: new_tables(),
+            kind: PhantomData,
+        }
     }
 
     /// Adds junction v to the end of the transit list.
@@ -94,7 +104,11 @@ impl<M: TwoWay, K: Zeroed> Plan<M, K> {
     pub fn into_map(self) -> M
         ensures { λ r. ⌜ r ≡ self .map ⌝ }
     {
-        let Plan { map, tables: _, kind: _ } = self;
+        let Plan {
+            map,
+            tables: _,
+            kind: _,
+        } = self;
         map
     }
 }

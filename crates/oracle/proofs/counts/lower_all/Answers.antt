@@ -36,11 +36,12 @@ loop-k-again c =
     let there = c .pre .some p (row-member h (c .pre .within) (omega arith) k (c .loop-k-test .taken)) in
     let long : 16 ≤ length now-trees = omega (arith, c .loop-k .inv .1) in
     let some : 0 < countIn now-trees p = omega (arith, c .loop-k .inv .0 .counts p (w .0), ap bit fresh, there) in
-    let less : new .closed ≡ countIn now-trees p - 1 = ap (λ r. r .closed) (c .lower .ensures) in
-    (subst (λ ps. Raised ps (set now-trees (p - 1) new) (c .args .trees .now)) (sym (row-more h (c .pre .within) (omega arith) k (c .loop-k-test .taken)))
-    (raised-first (take k (listOf h)) p (set now-trees (p - 1) new) now-trees (c .args .trees .now) fresh
-        (lowered-one now-trees p (w .0) (omega (arith, w .1, long)) new (ap (λ r. r .tree) (c .lower .ensures)) (omega (arith, less, some))) (c .loop-k .inv .0)),
-    length-set now-trees (p - 1) new ∙ c .loop-k .inv .1)
+    let less : new .closed ≡ countIn now-trees p - 1 = ap (λ r. r .closed) (c .lower .ensures) in (
+      subst (λ ps. Raised ps (set now-trees (p - 1) new) (c .args .trees .now)) (sym (row-more h (c .pre .within) (omega arith) k (c .loop-k-test .taken)))
+          (raised-first (take k (listOf h)) p (set now-trees (p - 1) new) now-trees (c .args .trees .now) fresh
+          (lowered-one now-trees p (w .0) (omega (arith, w .1, long)) new (ap (λ r. r .tree) (c .lower .ensures)) (omega (arith, less, some))) (c .loop-k .inv .0)),
+      length-set now-trees (p - 1) new ∙ c .loop-k .inv .1,
+    )
 
 pub returns : need.returns
 returns c =

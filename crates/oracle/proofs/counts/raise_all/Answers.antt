@@ -31,11 +31,12 @@ loop-k-again c =
     let now-trees = c .loop-k .trees in
     let new = c .raise .last .kept in
     let w = row-within h (c .pre .within) (omega arith) k (c .loop-k-test .taken) in
-    let long : 16 ≤ length now-trees = omega (arith, c .loop-k .inv .1) in
-    (subst (λ ps. Raised ps (c .args .trees .now) (set now-trees (p - 1) new)) (sym (row-more h (c .pre .within) (omega arith) k (c .loop-k-test .taken)))
-    (raised-last (take k (listOf h)) p (c .args .trees .now) now-trees (set now-trees (p - 1) new) (row-fresh h (c .pre .within) (omega arith) k (c .loop-k-test .taken)) (c .loop-k .inv .0)
-        (raised-one now-trees p (w .0) (omega (arith, w .1, long)) new (ap (λ r. r .tree) (c .raise .ensures)) (ap (λ r. r .closed) (c .raise .ensures)))),
-    length-set now-trees (p - 1) new ∙ c .loop-k .inv .1)
+    let long : 16 ≤ length now-trees = omega (arith, c .loop-k .inv .1) in (
+      subst (λ ps. Raised ps (c .args .trees .now) (set now-trees (p - 1) new)) (sym (row-more h (c .pre .within) (omega arith) k (c .loop-k-test .taken)))
+          (raised-last (take k (listOf h)) p (c .args .trees .now) now-trees (set now-trees (p - 1) new) (row-fresh h (c .pre .within) (omega arith) k (c .loop-k-test .taken)) (c .loop-k .inv .0)
+          (raised-one now-trees p (w .0) (omega (arith, w .1, long)) new (ap (λ r. r .tree) (c .raise .ensures)) (ap (λ r. r .closed) (c .raise .ensures)))),
+      length-set now-trees (p - 1) new ∙ c .loop-k .inv .1,
+    )
 
 pub returns : need.returns
 returns c =

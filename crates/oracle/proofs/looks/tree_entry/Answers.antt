@@ -15,10 +15,11 @@ returns-then-position-eq0 c =
     let x = c .args .tables .now in
     let long = listed-length x (omega arith) in
     sym (cond-false (isPosition (length (transitOf x)) (c .args .position)) _ _
-        (outside (length (transitOf x)) (c .args .position)
-            (elim (c .then-position-eq0 .came) [
-                then-position-eq0·by·then-position-eq0 w ↦ inl (w .if-position-eq0 .taken)
-              | then-position-eq0·by·else-position-eq0·then-position-min w ↦ inr (omega (arith, w .if-position-min .taken, w .min .ensures, long)) ])))
+    (outside (length (transitOf x)) (c .args .position)
+    (elim (c .then-position-eq0 .came) [
+      | then-position-eq0·by·then-position-eq0 w ↦ inl (w .if-position-eq0 .taken)
+      | then-position-eq0·by·else-position-eq0·then-position-min w ↦ inr (omega (arith, w .if-position-min .taken, w .min .ensures, long))
+    ])))
 
 pub returns : need.returns
 returns c =

@@ -14,7 +14,7 @@ pub returns-then-e-eq0 : need.returns-then-e-eq0
 returns-then-e-eq0 g c =
     let m = c .args .self .now .map in
     sym (index-outside (g .K·Length .kind) (g .M·Map .graph m) (g .M·Map .lawful m) (transitOf (c .args .self .now .tables)) (c .args .e) (c .args .k)
-        (⊎-elim inl (λ w. inr (w .1)) (c .then-e-eq0 .either)))
+    (⊎-elim inl (λ w. inr (w .1)) (c .then-e-eq0 .either)))
 
 pub returns : need.returns
 returns g c =
