@@ -7,7 +7,7 @@ use Prim.Native.Nat.{ℕ, zero, suc, _+_, _-_, _<_, _≤_}
 use native.Mathlib.Omega.{arith}
 use lib.Dec.{eqb, leb, ltb}
 use lib.ListN.{length, getD}
-use Rattle.std.proofs.shelf.Tests.{cases-eq, cases-bool, eq-eqb, ne-eqb, eqb-true, eqb-false, and-from, and-left, and-right, and-parts, le-leb, lt-ltb, leb-true, cond-true, cond-false}
+use Rattle.std.proofs.shelf.Tests.{cases-eq, cases-bool, eq-eqb, ne-eqb, eqb-true, eqb-false, and-from, and-left, and-right, and-parts, le-leb, lt-ltb, leb-true, not-from-false, cond-true, cond-false}
 use Rattle.std.specs.Options.{isSome}
 use Rattle.std.specs.declared.option.Option.{Option}
 use Rattle.std.specs.declared.option.Option.the-variants.{None}
@@ -15,14 +15,15 @@ use Rattle.std.specs.shelf.Lists.{All}
 use Rattle.maps.specs.Graph.{Graph, reversed}
 use Rattle.lengths.specs.Kinds.{Kind, LawfulKind}
 use Rattle.walks.specs.Streets.{emptySet, Coded}
-use Rattle.walks.specs.Walks.{BestOpen}
+use Rattle.walks.specs.Walks.{Leads, BestOpen}
 use Rattle.walks.specs.Runs.{Table, lengthOf, boundedRun}
-use Rattle.walks.specs.Trees.{OnMap}
+use Rattle.walks.specs.Trees.{OnMap, Tells}
 use Rattle.walks.specs.Legs.{Legs, grid, Target, legBetween}
 use Rattle.asks.specs.Held.{bit, closedHeld}
 use Rattle.asks.specs.Index.{nodeAt, treeAt}
 use Rattle.asks.specs.Handed.{storedLegs, positionLeg, egressLeg, handedLegs}
 use Rattle.asks.specs.Reached.{passing, isRedone}
+use Rattle.asks.specs.Claims.{AgreesWhereReached}
 use Rattle.asks.specs.Redone.{Redone}
 use Rattle.asks.proofs.Handing.{node-on-map, position-true}
 use Rattle.asks.proofs.Redoing.{partial-handed-answer, redone-by-search}
@@ -30,12 +31,12 @@ use Rattle.legs.specs.declared.Reached.{Reached}
 use Rattle.legs.specs.declared.table.LegTable.{LegTable}
 use Rattle.legs.specs.Tables.{legOf, withLeg, arePositions, lengthAt, positionAt}
 use Rattle.legs.proofs.Cells.{between-is}
-use Rattle.trees.specs.Runs.{runOn}
+use Rattle.trees.specs.Runs.{noneSettled, runOn}
 use Rattle.calls.specs.Moments.{onMap}
 use Rattle.oracle.specs.declared.tables.TreeRecord.{TreeRecord}
 use Rattle.oracle.specs.Tables.{countIn}
 use Rattle.oracle.specs.Rows.{withRow}
-use Rattle.oracle.specs.Handing.{RowsRedone, StopsHanded, EndsHanded, isCounted}
+use Rattle.oracle.specs.Handing.{RowsBlank, StopsHanded, EndsHanded, RowsFilled, isCounted}
 
 -- ---- one leg, one row
 pub leg-here : (b : Bool) (i j : ℕ) (o : Option ℕ) (D : Legs) → b ≡ true → withLeg b i j o D i j ≡ o
@@ -63,33 +64,31 @@ leg-outside t i j h = cond-false (legBetween (t .count) i j) _ None h
 at : {D E : Legs} → D ≡ E → (i j : ℕ) → D i j ≡ E i j
 at e i j = ap (λ (X : Legs). X i j) e
 
--- ---- rows worked out anew, position by position
-module _ (p : ℕ) (ns : List ℕ) (rs : List TreeRecord) (run : ℕ → Table) (old : Legs) where
-  pub rows-none : RowsRedone 0 ns rs run old old
-  rows-none = record { redone = λ i j lo hi. absurd (omega arith); sound = λ i j lo z. refl; later = λ i j h. refl }
+-- ---- rows of affected trees left out, position by position
+module _ (p : ℕ) (ns : List ℕ) (rs : List TreeRecord) (old : Legs) where
+  pub blank-none : RowsBlank 0 ns rs old old
+  blank-none = record { blank = λ i j lo hi. absurd (omega arith); sound = λ i j lo z. refl; later = λ i j h. refl }
 
-  module _ (D : Legs) (h : RowsRedone p ns rs run old D) where
-    pub rows-sound : countIn rs (p + 1) ≡ 0 → RowsRedone (p + 1) ns rs run old D
-    rows-sound z = record {
-      redone = λ i j lo hi a b n c. h .redone i j lo (⊎-elim (λ (q : i ≡ p + 1). absurd (c (ap (countIn rs) q ∙ z))) (λ q. omega arith) (cases-eq i (p + 1))) a b n c;
+  module _ (D : Legs) (h : RowsBlank p ns rs old D) where
+    pub blank-sound : countIn rs (p + 1) ≡ 0 → RowsBlank (p + 1) ns rs old D
+    blank-sound z = record {
+      blank = λ i j lo hi a b n c. h .blank i j lo (⊎-elim (λ (q : i ≡ p + 1). absurd (c (ap (countIn rs) q ∙ z))) (λ q. omega arith) (cases-eq i (p + 1))) a b n c;
       sound = h .sound;
       later = λ i j l. h .later i j (omega arith);
     }
 
-    pub rows-more : (E : Legs) → p < length ns → (countIn rs (p + 1) ≡ 0 → ⊥) → E ≡ withRow ns (p + 1) (run (getD ns p 0)) D → RowsRedone (p + 1) ns rs run old E
-    rows-more E below some e = record {
-      redone = λ i j lo hi a b n c. ⊎-elim
-          (λ (q : i ≡ p + 1). let is : i - 1 ≡ p = omega arith in
-          at e i j ∙ ap (λ x. withRow ns (p + 1) (run (getD ns p 0)) D x j) q
-          ∙ row-here ns (p + 1) (run (getD ns p 0)) D j (omega arith) (omega arith) a b (λ z. n (q ∙ z))
-          ∙ ap (λ x. lengthOf (run (getD ns x 0) (nodeAt ns j))) (sym is))
-          (λ q. other i j q ∙ h .redone i j lo (omega arith) a b n c) (cases-eq i (p + 1));
+    pub blank-more : (E : Legs) → p < length ns → (countIn rs (p + 1) ≡ 0 → ⊥) → E ≡ withRow ns (p + 1) noneSettled D → RowsBlank (p + 1) ns rs old E
+    blank-more E below some e = record {
+      blank = λ i j lo hi a b n c. ⊎-elim
+          (λ (q : i ≡ p + 1).
+          ap isSome (at e i j ∙ ap (λ x. withRow ns (p + 1) noneSettled D x j) q ∙ row-here ns (p + 1) noneSettled D j (omega arith) (omega arith) a b (λ z. n (q ∙ z))))
+          (λ q. ap isSome (other i j q) ∙ h .blank i j lo (omega arith) a b n c) (cases-eq i (p + 1));
       sound = λ i j lo z. other i j (λ q. some (ap (countIn rs) (sym q) ∙ z)) ∙ h .sound i j lo z;
       later = λ i j l. other i j (λ q. omega arith) ∙ h .later i j (omega arith);
     }
       where
         other : (i j : ℕ) → (i ≡ p + 1 → ⊥) → E i j ≡ D i j
-        other i j q = at e i j ∙ row-other ns (p + 1) (run (getD ns p 0)) D i j q
+        other i j q = at e i j ∙ row-other ns (p + 1) noneSettled D i j q
 
 -- ---- access and egress, position by position
 module _ (p : ℕ) (ns : List ℕ) (A B : Table) (old : Legs) where
@@ -143,48 +142,62 @@ passing-same q r (suc k) h =
 
 -- ---- all legs together
 module _ (K : Kind) (G : Graph) (ns : List ℕ) (on : All (OnMap G) ns) (few : length ns ≤ 16) (F : ℕ → Bool) (s t : ℕ) (rs : List TreeRecord)
-    (counts : (i : ℕ) → 0 < i → i ≤ length ns → countIn rs i ≡ closedHeld F (treeAt K G ns i) (G .junctions)) where
-  module _ (old mid : Legs) (legs : LegTable) (places : legs .count ≡ length ns)
+    (counts : (i : ℕ) → 0 < i → i ≤ length ns → countIn rs i ≡ closedHeld F (treeAt K G ns i) (G .junctions)) (r : Reached) where
+  module _ (old mid ended : Legs) (legs : LegTable) (places : legs .count ≡ length ns)
       (stored : (i j : ℕ) → old i j ≡ storedLegs K G ns i j)
-      (rows : RowsRedone (length ns) ns rs (runOn K G ns F) old mid)
-      (ends : EndsHanded ns (boundedRun K G ns F s) (boundedRun K (reversed G) ns F t) t mid (legOf legs)) where
-    between : (i j : ℕ) → 0 < i → i ≤ length ns → 0 < j → j ≤ length ns → (i ≡ j → ⊥) → legOf legs i j ≡ positionLeg K G ns F i j
-    between i j a b c d n = ends .stops .between i j a (omega arith) ∙ go (eqb (closedHeld F (treeAt K G ns i) (G .junctions)) 0) refl
-      where
-        go : (x : Bool) → eqb (closedHeld F (treeAt K G ns i) (G .junctions)) 0 ≡ x
-            → mid i j ≡ cond (not x) (lengthOf (boundedRun K G ns F (nodeAt ns i) (nodeAt ns j))) (storedLegs K G ns i j)
-        go true h = rows .sound i j a (counts i a b ∙ eqb-true _ 0 h) ∙ stored i j
-        go false h =
-            rows .redone i j a b c d n (λ z. eqb-false _ 0 h (sym (counts i a b) ∙ z))
-            ∙ ap (λ (T : Table). lengthOf (T (nodeAt ns j))) (run-on-map K G ns F (nodeAt ns i) (node-on-map G ns on i a b))
+      (blank : RowsBlank (length ns) ns rs old mid)
+      (ends : EndsHanded ns (boundedRun K G ns F s) (boundedRun K (reversed G) ns F t) t mid ended)
+      (rows : RowsFilled ns rs (runOn K G ns F) (isCounted r rs) ended (legOf legs)) where
+    -- the row of a node that is reached is as it has to be
+    module _ (i : ℕ) (here : isSome (lengthAt r i) ≡ true) where
+      counted : 0 < i → i ≤ length ns → (countIn rs i ≡ 0 → ⊥) → isCounted r rs i ≡ true
+      counted lo hi n =
+          and-from (isSome (positionAt r i)) (not (eqb (countIn rs i) 0))
+          (ap isSome (cond-true (leb 1 i && leb i 16) (lengthAt r i) None (position-true 16 i lo (omega arith))) ∙ here)
+          (not-from-false (eqb (countIn rs i) 0) (ne-eqb (countIn rs i) 0 n))
 
-    inner : (i j : ℕ) → i ≤ length ns → Target (length ns) j → (i ≡ j → ⊥) → (x y : Bool) → eqb i 0 ≡ x → eqb j 31 ≡ y
-        → legOf legs i j ≡ cond x (lengthOf (boundedRun K G ns F s (cond y t (nodeAt ns j)))) (cond y (egressLeg K G ns F t i) (positionLeg K G ns F i j))
-    inner i j hi target n true true p q =
-        ap (λ v. legOf legs v j) (eqb-true i 0 p) ∙ ap (λ v. legOf legs 0 v) (eqb-true j 31 q) ∙ ends .direct
-    inner i j hi target n true false p q =
-        let c : (0 < j) × (j ≤ length ns) = ⊎-elim (λ y. y) (λ (y : j ≡ 31). absurd (eqb-false j 31 q y)) target in
-        ap (λ v. legOf legs v j) (eqb-true i 0 p) ∙ ends .stops .access j (c .0) (c .1)
-    inner i j hi target n false true p q =
-        let x = eqb-false i 0 p in ap (λ v. legOf legs i v) (eqb-true j 31 q) ∙ ends .stops .egress i (omega arith) hi
-    inner i j hi target n false false p q =
-        let c : (0 < j) × (j ≤ length ns) = ⊎-elim (λ y. y) (λ (y : j ≡ 31). absurd (eqb-false j 31 q y)) target in
-        let x = eqb-false i 0 p in between i j (omega arith) hi (c .0) (c .1) n
+      between : (j : ℕ) → 0 < i → i ≤ length ns → 0 < j → j ≤ length ns → (i ≡ j → ⊥) → legOf legs i j ≡ positionLeg K G ns F i j
+      between j a b c d n = go (eqb (closedHeld F (treeAt K G ns i) (G .junctions)) 0) refl
+        where
+          go : (x : Bool) → eqb (closedHeld F (treeAt K G ns i) (G .junctions)) 0 ≡ x
+              → legOf legs i j ≡ cond (not x) (lengthOf (boundedRun K G ns F (nodeAt ns i) (nodeAt ns j))) (storedLegs K G ns i j)
+          go true h =
+              let z = counts i a b ∙ eqb-true _ 0 h in
+              rows .sound i j a z ∙ ends .stops .between i j a (omega arith) ∙ blank .sound i j a z ∙ stored i j
+          go false h =
+              rows .filled i j a b c d n (counted a b (λ z. eqb-false _ 0 h (sym (counts i a b) ∙ z)))
+              ∙ ap (λ (T : Table). lengthOf (T (nodeAt ns j))) (run-on-map K G ns F (nodeAt ns i) (node-on-map G ns on i a b))
 
-    pub handed-legs : (i j : ℕ) → legOf legs i j ≡ handedLegs K G ns F s t i j
-    handed-legs i j =
-        ⊎-elim
-        (λ (h : legBetween (length ns) i j ≡ true). let b = between-is (length ns) i j h in
-        inner i j (b .0) (b .1) (b .2) (eqb i 0) (eqb j 31) refl refl ∙ sym (cond-true (legBetween (length ns) i j) _ None h))
-        (λ (h : legBetween (length ns) i j ≡ false).
-        leg-outside legs i j (ap (λ k. legBetween k i j) places ∙ h) ∙ sym (cond-false (legBetween (length ns) i j) _ None h))
-        (cases-bool (legBetween (length ns) i j))
+      inner : (j : ℕ) → i ≤ length ns → Target (length ns) j → (i ≡ j → ⊥) → (x y : Bool) → eqb i 0 ≡ x → eqb j 31 ≡ y
+          → legOf legs i j ≡ cond x (lengthOf (boundedRun K G ns F s (cond y t (nodeAt ns j)))) (cond y (egressLeg K G ns F t i) (positionLeg K G ns F i j))
+      inner j hi target n true true p q =
+          ap (λ v. legOf legs v j) (eqb-true i 0 p) ∙ ap (λ v. legOf legs 0 v) (eqb-true j 31 q) ∙ rows .start 31 ∙ ends .direct
+      inner j hi target n true false p q =
+          let c : (0 < j) × (j ≤ length ns) = ⊎-elim (λ y. y) (λ (y : j ≡ 31). absurd (eqb-false j 31 q y)) target in
+          ap (λ v. legOf legs v j) (eqb-true i 0 p) ∙ rows .start j ∙ ends .stops .access j (c .0) (c .1)
+      inner j hi target n false true p q =
+          let x = eqb-false i 0 p in ap (λ v. legOf legs i v) (eqb-true j 31 q) ∙ rows .goal i ∙ ends .stops .egress i (omega arith) hi
+      inner j hi target n false false p q =
+          let c : (0 < j) × (j ≤ length ns) = ⊎-elim (λ y. y) (λ (y : j ≡ 31). absurd (eqb-false j 31 q y)) target in
+          let x = eqb-false i 0 p in between j (omega arith) hi (c .0) (c .1) n
+
+      pub handed-row : (j : ℕ) → legOf legs i j ≡ handedLegs K G ns F s t i j
+      handed-row j =
+          ⊎-elim
+          (λ (h : legBetween (length ns) i j ≡ true). let b = between-is (length ns) i j h in
+          inner j (b .0) (b .1) (b .2) (eqb i 0) (eqb j 31) refl refl ∙ sym (cond-true (legBetween (length ns) i j) _ None h))
+          (λ (h : legBetween (length ns) i j ≡ false).
+          leg-outside legs i j (ap (λ k. legBetween k i j) places ∙ h) ∙ sym (cond-false (legBetween (length ns) i j) _ None h))
+          (cases-bool (legBetween (length ns) i j))
+
+    pub handed-agree : ((v : ℕ) → Tells (isSome (lengthAt r v)) (Leads (grid (legOf legs)) emptySet 0 v)) → AgreesWhereReached (legOf legs) (handedLegs K G ns F s t)
+    handed-agree tells i leads = handed-row i (⊎-elim (λ h. h) (λ h. absurd (tells i .1 h leads)) (cases-bool (isSome (lengthAt r i))))
 
   -- ---- what a search over them finds
-  module _ (law : LawfulKind K) (coded : Coded G) (none : F 0 ≡ false) (D : Legs) (same : (i j : ℕ) → D i j ≡ handedLegs K G ns F s t i j)
-      (r : Reached) (best : (v : ℕ) → BestOpen K (grid D) emptySet 0 v (lengthAt r v)) where
+  module _ (law : LawfulKind K) (coded : Coded G) (none : F 0 ≡ false) (D : Legs) (same : AgreesWhereReached D (handedLegs K G ns F s t))
+      (best : (v : ℕ) → BestOpen K (grid D) emptySet 0 v (lengthAt r v)) where
     pub found-best : BestOpen K (G .street) F s t (lengthAt r 31)
-    found-best = partial-handed-answer K law G coded ns on few F s t D (λ i _ j. same i j) 31 (inr refl) (lengthAt r 31) (best 31)
+    found-best = partial-handed-answer K law G coded ns on few F s t D same 31 (inr refl) (lengthAt r 31) (best 31)
 
     counted-as : (i : ℕ) → 0 < i → i ≤ length ns → isRedone K G ns F (lengthAt r) i ≡ isCounted r rs i
     counted-as i lo hi =
@@ -194,4 +207,4 @@ module _ (K : Kind) (G : Graph) (ns : List ℕ) (on : All (OnMap G) ns) (few : l
     pub found-redone : Redone K G ns F s (passing (isCounted r rs) (length ns))
     found-redone =
         subst (Redone K G ns F s) (passing-same (isRedone K G ns F (lengthAt r)) (isCounted r rs) (length ns) counted-as)
-        (redone-by-search K law G coded ns on few F none s t D (λ i _ j. same i j) (lengthAt r) (λ i _ _. best i))
+        (redone-by-search K law G coded ns on few F none s t D same (lengthAt r) (λ i _ _. best i))

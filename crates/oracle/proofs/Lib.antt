@@ -5,3 +5,4 @@ pub mod Looking
 pub mod Filling
 pub mod Storing
 pub mod Handed
+pub mod Rounds

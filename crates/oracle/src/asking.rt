@@ -1,114 +1,30 @@
-// An ask: the legs handed to the search, and what the search finds.
+// An ask: what the search over the legs handed on finds, and the tally.
 ghost use mathlib.Core.Path.{_≡_};
-ghost use mathlib.Core.Bool.{true, false, not, _&&_};
-ghost use Prim.Native.Nat.{_+_, _<_, _≤_, min};
-ghost use lib.Dec.{eqb};
-ghost use lib.ListN.{length, getD};
-ghost use Rattle.std.specs.Options.{isSome};
+ghost use mathlib.Core.Bool.{true, false, _&&_};
+ghost use Prim.Native.Nat.{_+_, _≤_, min};
 ghost use Rattle.std.specs.Results.{isOk};
-ghost use Rattle.walks.specs.Runs.{lengthOf};
-ghost use Rattle.legs.specs.Tables.{positionsOf, legOf, withLeg};
-ghost use Rattle.trees.specs.Marks.{closedIn};
-ghost use Rattle.trees.specs.Runs.{runOn};
-ghost use Rattle.trees.specs.Trees.{tableOf};
 ghost use Rattle.asks.specs.Reached.{passing};
 ghost use Rattle.calls.specs.Gives.{Finds, Replied};
 ghost use Rattle.calls.specs.Moments.{onMap, after};
 ghost use Rattle.calls.specs.declared.Call.the-variants.{Ask};
 ghost use Rattle.oracle.specs.Tables.{momentOf};
 ghost use Rattle.oracle.specs.States.{IndexFits, withAsk};
-ghost use Rattle.oracle.specs.Rows.{withRow};
-ghost use Rattle.oracle.specs.Handing.{RowsRedone, EndsHanded, isCounted};
+ghost use Rattle.oracle.specs.Handing.{isCounted};
+use crate::handing::blank_rows;
+use crate::handing::hand_ends;
+use crate::handing::is_redone;
+use crate::handing::search_reached;
 use crate::index::Index;
-use crate::rows::fill_row;
-use crate::rows::length_in;
 use crate::tables::Tables;
 use crate::tables::TreeRecord;
 use calls::Fault;
 use calls::Reply;
-use legs::LegTable;
 use legs::Reached;
-use legs::search;
 use lengths::Zeroed;
 use maps::Map;
 use maps::TwoWay;
-use trees::BoundedTree;
 use trees::bounded_run;
 use trees::bounded_run_against;
-
-// Whether a stored tree holds a closed street.
-fn is_affected(kept: &TreeRecord) -> bool
-    ensures { λ r. ⌜ r ≡ not (eqb (now (kept .entry) .closed) 0) ⌝ }
-{
-    kept.closed != 0
-}
-
-// Works out anew the legs from the position after i others.
-fn redo_row<M: Map, K: Zeroed>(
-    map: &M,
-    transit: &[u16],
-    closed: &[bool; 512],
-    i: usize,
-    legs: &mut LegTable,
-)
-    requires within { ⌜ i < length (now transit) ⌝ }
-    requires few { ⌜ length (now transit) ≤ 16 ⌝ }
-    requires positions { ⌜ positionsOf (now legs) ≡ length (now transit) ⌝ }
-    ensures positions { λ _. ⌜ positionsOf (now (legs .exit)) ≡ positionsOf (now (legs .entry)) ⌝ }
-    ensures legs { λ _. ⌜ legOf (now (legs .exit)) ≡ withRow (now (transit .entry)) (i + 1) (runOn (K·Length .kind) (M·Map .graph (now (map .entry))) (now (transit .entry)) (closedIn (now (closed .entry))) (getD (now (transit .entry)) i 0)) (legOf (now (legs .entry))) ⌝ }
-{
-    let tree = bounded_run::<M, K>(map, transit, closed, transit[i]);
-    fill_row(legs, i as u16 + 1, &tree, transit);
-}
-
-// Works out anew the legs from each position whose tree holds a closed street.
-fn redo_rows<M: Map, K: Zeroed>(
-    map: &M,
-    transit: &[u16],
-    closed: &[bool; 512],
-    trees: &[TreeRecord; 16],
-    legs: &mut LegTable,
-)
-    requires few { ⌜ length (now transit) ≤ 16 ⌝ }
-    requires positions { ⌜ positionsOf (now legs) ≡ length (now transit) ⌝ }
-    ensures positions { λ _. ⌜ positionsOf (now (legs .exit)) ≡ positionsOf (now (legs .entry)) ⌝ }
-    ensures rows { λ _. ⌜ RowsRedone (length (now (transit .entry))) (now (transit .entry)) (now (trees .entry)) (runOn (K·Length .kind) (M·Map .graph (now (map .entry))) (now (transit .entry)) (closedIn (now (closed .entry)))) (legOf (now (legs .entry))) (legOf (now (legs .exit))) ⌝ }
-{
-    for i in 0..transit.len() {
-        if is_affected(&trees[i]) {
-            redo_row::<M, K>(map, transit, closed, i, legs);
-        }
-    }
-}
-
-// The length from the start straight to the goal t.
-fn hand_direct(legs: &mut LegTable, from: &BoundedTree, t: u16)
-    ensures positions { λ _. ⌜ positionsOf (now (legs .exit)) ≡ positionsOf (now (legs .entry)) ⌝ }
-    ensures legs { λ _. ⌜ legOf (now (legs .exit)) ≡ withLeg true 0 31 (lengthOf (tableOf (now (from .entry)) t)) (legOf (now (legs .entry))) ⌝ }
-{
-    legs.set_direct(length_in(from, t));
-}
-
-// The lengths from the start to every position and to the goal t, and from every position to the goal.
-fn hand_ends(legs: &mut LegTable, from: &BoundedTree, back: &BoundedTree, transit: &[u16], t: u16)
-    requires few { ⌜ length (now transit) ≤ 16 ⌝ }
-    requires positions { ⌜ positionsOf (now legs) ≡ length (now transit) ⌝ }
-    ensures positions { λ _. ⌜ positionsOf (now (legs .exit)) ≡ positionsOf (now (legs .entry)) ⌝ }
-    ensures ends { λ _. ⌜ EndsHanded (now (transit .entry)) (tableOf (now (from .entry))) (tableOf (now (back .entry))) t (legOf (now (legs .entry))) (legOf (now (legs .exit))) ⌝ }
-{
-    for i in 0..transit.len() {
-        legs.set_access(i as u16 + 1, length_in(from, transit[i]));
-        legs.set_egress(i as u16 + 1, length_in(back, transit[i]));
-    }
-    hand_direct(legs, from, t);
-}
-
-// Whether a position, with its length in the search, is reached and its tree holds a closed street.
-fn redone_at(length: Option<u64>, kept: &TreeRecord) -> bool
-    ensures { λ r. ⌜ r ≡ (isSome length && not (eqb (now (kept .entry) .closed) 0)) ⌝ }
-{
-    length.is_some() && is_affected(kept)
-}
 
 // How many positions are reached whose tree holds a closed street.
 fn count_redone(reached: &Reached, trees: &[TreeRecord; 16], named: usize) -> u8
@@ -117,7 +33,7 @@ fn count_redone(reached: &Reached, trees: &[TreeRecord; 16], named: usize) -> u8
 {
     let mut redone = 0;
     for i in 0..named {
-        if redone_at(reached.position(i as u16 + 1), &trees[i]) {
+        if is_redone(reached.position(i as u16 + 1), &trees[i]) {
             redone += 1;
         }
     }
@@ -132,12 +48,12 @@ fn work_out<M: TwoWay, K: Zeroed>(map: &M, tables: &Tables, s: u16, t: u16) -> R
     ensures { λ r. ⌜ Finds (K·Length .kind) (M·Map .graph (now (map .entry))) (momentOf true (now (tables .entry))) s t (r .length) (r .redone) ⌝ }
 {
     let transit = &tables.transit[0..tables.named];
-    let mut legs = tables.legs;
-    redo_rows::<M, K>(map, transit, &tables.closed, &tables.trees, &mut legs);
     let from = bounded_run::<M, K>(map, transit, &tables.closed, s);
     let back = bounded_run_against::<M, K>(map, transit, &tables.closed, t);
+    let mut legs = tables.legs;
+    blank_rows(transit, &tables.trees, &mut legs);
     hand_ends(&mut legs, &from, &back, transit, t);
-    let reached = search::<K>(&legs);
+    let reached = search_reached::<M, K>(map, transit, &tables.closed, &tables.trees, &mut legs);
     Reply {
         length: reached.goal(),
         redone: count_redone(&reached, &tables.trees, tables.named),

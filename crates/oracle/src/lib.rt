@@ -7,6 +7,7 @@
 // Not promised here: what follows for whole lives of calls. The crate `lives` says it.
 mod asking;
 mod counts;
+mod handing;
 pub mod index;
 mod looks;
 pub mod plan;

@@ -32,10 +32,10 @@ use queue::PriorityQueue;
 
 // What bounds a run: it leaves no junction of the transit list but its root, and takes no closed street.
 #[derive(Drop)]
-pub struct Limits<'t, 'c> {
-    pub transit: &'t [u16],
-    pub closed: &'c [bool; 512],
-    pub root: u16,
+pub(crate) struct Limits<'t, 'c> {
+    pub(crate) transit: &'t [u16],
+    pub(crate) closed: &'c [bool; 512],
+    pub(crate) root: u16,
 }
 
 // Whether v is in the transit list.
@@ -160,7 +160,7 @@ fn turn<M: Map, K: Length>(
 }
 
 // The run from a root on the map.
-pub fn run_within<M: Map, K: Zeroed>(map: &M, limits: &Limits<'_, '_>) -> BoundedTree
+pub(crate) fn run_within<M: Map, K: Zeroed>(map: &M, limits: &Limits<'_, '_>) -> BoundedTree
     requires { ⌜ OnMap (M·Map .graph (now map)) (now limits .root) ⌝ }
     ensures { λ r. ⌜ tableOf r ≡ boundedRun (K·Length .kind) (M·Map .graph (now (map .entry))) (now (now (limits .entry) .transit)) (closedIn (now (now (limits .entry) .closed))) (now (limits .entry) .root) ⌝ }
 {

@@ -7,7 +7,7 @@ use Rattle.legs.specs.Tables.{positionsOf, legOf, isPosition}
 use Rattle.trees.specs.Trees.{tableOf}
 use Rattle.oracle.specs.Handing.{StopsHanded}
 use Rattle.oracle.proofs.Handed.{stops-more, stops-none, ends-all}
-use Rattle.oracle.proofs.asking.hand_ends.Needs as need
+use Rattle.oracle.proofs.handing.hand_ends.Needs as need
 
 pub loop-i-holds : need.loop-i-holds
 loop-i-holds c = (stops-none 0 (c .args .transit .now) (tableOf (c .args .from .now)) (tableOf (c .args .back .now)) (legOf (c .args .legs .now)), refl)
