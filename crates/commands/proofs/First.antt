@@ -30,8 +30,8 @@ no-lines (b ∷ bs) h = absurd (omega arith)
 
 module _ (bs : List ℕ) (n : ℕ) (is : n ≡ before 10 bs) (some : 0 < length bs) where
   -- what `&text[0..n]` and `&text[n + 1..]` hold, where the line has an end
-  pub ended : n < length bs → FirstLine bs (take (n - 0) bs) (take (length bs - (n + 1)) (drop (n + 1) bs))
-  ended inside =
+  pub with-end : n < length bs → FirstLine bs (take (n - 0) bs) (take (length bs - (n + 1)) (drop (n + 1) bs))
+  with-end inside =
       let e : n - 0 ≡ n = omega arith in
       record {
         lines = rw (e, between-to-end bs (n + 1) (length bs) (omega arith), add-one n) (subst (Splits bs) (sym is) (splits bs some));
@@ -40,8 +40,8 @@ module _ (bs : List ℕ) (n : ℕ) (is : n ≡ before 10 bs) (some : 0 < length 
       }
 
   -- and where it has none
-  pub endless : length bs ≤ n → FirstLine bs bs (take (length bs - n) (drop n bs))
-  endless out = record {
+  pub without-end : length bs ≤ n → FirstLine bs bs (take (length bs - n) (drop n bs))
+  without-end out = record {
     lines = rw (between-to-end bs n (length bs) (omega arith), drop-all n bs out) (rw (take-all n bs out, drop-all (suc n) bs (omega arith)) at (subst (Splits bs) (sym is) (splits bs some)));
     within = simp (length-take, length-drop) (omega arith);
     less = simp (length-take, length-drop) (omega arith);

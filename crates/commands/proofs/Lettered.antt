@@ -5,7 +5,8 @@ use mathlib.Core.List.{List, [], _∷_, _++_}
 use Prim.Native.Nat.{ℕ, _<_}
 use native.Mathlib.Omega.{arith}
 use lib.ListN.{length, getD}
-use Rattle.std.specs.declared.result.Result.the-variants.{Ok, Err}
+use Rattle.std.specs.declared.result.Result.{Result}
+use Rattle.std.specs.declared.result.Result.the-variants.{Err}
 use Rattle.calls.specs.declared.Call.{Call}
 use Rattle.calls.specs.declared.Call.the-variants.{Name, Build, Close, Reopen, Ask, Tally, Replan}
 use Rattle.commands.specs.Numbers.{isDigit, IsNumeral}
@@ -14,6 +15,7 @@ use Rattle.commands.specs.Grammar.{letterOf, spaced, Spells}
 use Rattle.commands.specs.Outcome.{Outcome}
 use Rattle.commands.specs.Reading.{Follow, decided}
 use Rattle.commands.specs.declared.command.Numbers.{Numbers}
+use Rattle.commands.specs.declared.command.LineFault.{LineFault}
 use Rattle.commands.specs.declared.command.LineFault.the-variants.{NoForm}
 use Rattle.commands.specs.declared.tokens.Token.{Token}
 use Rattle.commands.proofs.Spaces.{apart}
@@ -40,7 +42,7 @@ letter-no-digit Replan = refl
 
 module _ (line : List ℕ) (t : Token) (rest : List ℕ) (f : Front line t rest) where
   lettered : (c : Call) (ns : List (List ℕ)) → Spells c ns line → bytesOf t ≡ letterOf c ∷ []
-  lettered c ns s = apart (bytesOf t) (letterOf c ∷ []) rest (spaced ns) (f .spaceless) (letter-spaceless c) (f .stops) (spaced-stops ns) (sym (f .whole) ∙ s .bytes) .0
+  lettered c ns s = apart (bytesOf t) (letterOf c ∷ []) rest (spaced ns) (f .parted .spaceless) (letter-spaceless c) (f .parted .stops) (spaced-stops ns) (sym (f .parted .whole) ∙ s .bytes) .0
 
   -- a line that begins with a number has no form
   pub number-first : IsNumeral (bytesOf t) → Outcome line (Err NoForm)
@@ -55,8 +57,10 @@ module _ (line : List ℕ) (t : Token) (rest : List ℕ) (f : Front line t rest)
   no-letter other c ns s = other (ap length (lettered c ns s))
 
   -- a letter and the numbers that follow it
-  pub letter-first : length (bytesOf t) ≡ 1 → (numbers : Numbers) → Follow rest numbers → Outcome line (decided (getD (bytesOf t) 0 0) numbers)
-  letter-first is numbers follow = subst (λ l. Outcome l (decided (getD (bytesOf t) 0 0) numbers)) (sym (f .whole ∙ ap (λ w. w ++ rest) (one-byte (bytesOf t) is))) (outcome (getD (bytesOf t) 0 0) rest numbers follow)
+  pub letter-first : length (bytesOf t) ≡ 1 → (numbers : Numbers) → Follow rest numbers → (r : Result Call LineFault) → r ≡ decided (getD (bytesOf t) 0 0) numbers → Outcome line r
+  letter-first is numbers follow r e =
+      let whole : line ≡ getD (bytesOf t) 0 0 ∷ rest = f .parted .whole ∙ ap (λ w. w ++ rest) (one-byte (bytesOf t) is) in
+      subst (Outcome line) (sym e) (subst (λ l. Outcome l (decided (getD (bytesOf t) 0 0) numbers)) (sym whole) (outcome (getD (bytesOf t) 0 0) rest numbers follow))
     where
       one-byte : (w : List ℕ) → length w ≡ 1 → w ≡ getD w 0 0 ∷ []
       one-byte [] h = absurd (omega arith)

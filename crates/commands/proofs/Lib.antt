@@ -5,3 +5,4 @@ pub mod Shapes
 pub mod Decided
 pub mod Unique
 pub mod Lettered
+pub mod Shaped

@@ -8,7 +8,7 @@ use native.Mathlib.Omega.{arith}
 use lib.ListN.{length, take, drop, take-append-drop}
 use Rattle.std.proofs.shelf.Parts.{between-to-end}
 use Rattle.commands.specs.Text.{differs, before}
-use Rattle.commands.specs.Parts.{Spaceless, Stops}
+use Rattle.commands.specs.Parts.{Spaceless, Stops, Parted}
 
 taken-spaceless : (bs : List ℕ) → Spaceless (take (before 32 bs) bs)
 taken-spaceless [] = tt
@@ -25,12 +25,6 @@ dropped-stops (b ∷ bs) = go (differs 32 b) refl (dropped-stops bs)
     go : (t : Bool) → differs 32 b ≡ t → Stops (drop (before 32 bs) bs) → Stops (drop (cond t (1 + before 32 bs) 0) (b ∷ bs))
     go true e ih = rw (one-add (before 32 bs)) ih
     go false e ih = ap (λ t. cond t (1 + before 32 bs) 0) e
-
--- the text is a part without spaces, and what follows it
-pub record Parted (text front rest : List ℕ) : Type 0 where
-  pub whole : text ≡ front ++ rest
-  pub spaceless : Spaceless front
-  pub stops : Stops rest
 
 -- what `&text[0..n]` and `&text[n..]` hold
 pub fronted : (text : List ℕ) (n : ℕ) → n ≡ before 32 text → n ≤ length text → Parted text (take (n - 0) text) (take (length text - n) (drop n text))

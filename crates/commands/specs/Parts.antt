@@ -32,9 +32,13 @@ Spaceless bs = All (λ b. differs 32 b ≡ true) bs
 abbrev pub Stops : List ℕ → Type 0
 Stops bs = before 32 bs ≡ 0
 
+-- the text begins with this part up to a space or the end, and rest follows
+pub record Parted (text part rest : List ℕ) : Type 0 where
+  pub whole : text ≡ part ++ rest
+  pub spaceless : Spaceless part
+  pub stops : Stops rest
+
 -- the text begins with this token, and rest follows
 pub record Front (text : List ℕ) (t : Token) (rest : List ℕ) : Type 0 where
-  pub whole : text ≡ bytesOf t ++ rest
-  pub spaceless : Spaceless (bytesOf t)
-  pub stops : Stops rest
+  pub parted : Parted text (bytesOf t) rest
   pub classed : Classed t

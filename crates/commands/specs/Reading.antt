@@ -2,9 +2,9 @@
 use mathlib.Core.Path.{_≡_}
 use mathlib.Core.Bool.{cond}
 use mathlib.Core.List.{List, [], _∷_, _++_}
-use Prim.Native.Nat.{ℕ, _≤_}
+use Prim.Native.Nat.{ℕ, _<_, _≤_}
 use lib.Dec.{eqb, leb}
-use lib.ListN.{length}
+use lib.ListN.{length, getD}
 use Rattle.std.specs.declared.result.Result.{Result}
 use Rattle.std.specs.declared.result.Result.the-variants.{Ok, Err}
 use Rattle.std.specs.shelf.Lists.{All}
@@ -18,6 +18,10 @@ use Rattle.commands.specs.declared.command.Numbers.{Numbers}
 use Rattle.commands.specs.declared.command.Numbers.the-variants.{Zero, One, Two, Other}
 use Rattle.commands.specs.declared.command.LineFault.{LineFault}
 use Rattle.commands.specs.declared.command.LineFault.the-variants.{NoForm, TooLarge}
+
+-- the text begins with a space
+abbrev pub SpaceFirst : List ℕ → Type 0
+SpaceFirst text = (0 < length text) × (getD text 0 0 ≡ 32)
 
 -- the text does not begin with a space and a number that ends there
 abbrev pub NoNumber : List ℕ → Type 0

@@ -1,8 +1,10 @@
 // The call that a line spells.
 ghost use mathlib.Core.Path.{_≡_};
+ghost use lib.ListN.{length};
+ghost use Rattle.std.specs.Holes.{between};
 ghost use Rattle.std.specs.Options.{Cases};
 ghost use Rattle.commands.specs.Outcome.{lineFaultNumber, Outcome, Exact, Within, One-reading};
-ghost use Rattle.commands.specs.Reading.{NoNumber, SpacedNumber, Follow, smallOf, decided};
+ghost use Rattle.commands.specs.Reading.{SpaceFirst, NoNumber, SpacedNumber, Follow, smallOf, decided};
 use crate::tokens::Numeral;
 use crate::tokens::Token;
 use crate::tokens::next_token;
@@ -39,14 +41,24 @@ enum Numbers<'a> {
     Other,
 }
 
+// What follows one space at the front of the text.
+fn after_space<'a>(text: &'a [u8]) -> Option<&'a [u8]>
+    ensures { λ r. ⌜ Cases r (SpaceFirst (now (text .entry)) → ⊥) (λ rest. SpaceFirst (now (text .entry)) × (now rest ≡ between 1 (length (now (text .entry))) (now (text .entry)))) ⌝ }
+{
+    match text {
+        [b' ', rest @ ..] => Some(rest),
+        _ => None,
+    }
+}
+
 // A space and a number at the front of the text, and what follows the number.
 fn spaced_number<'a>(text: &'a [u8]) -> Option<(Numeral<'a>, &'a [u8])>
     ensures { λ r. ⌜ Cases r (NoNumber (now (text .entry))) (λ p. SpacedNumber (now (text .entry)) (p .0) (now (p .1))) ⌝ }
 {
-    let [b' ', text @ ..] = text else {
+    let Some(after) = after_space(text) else {
         return None;
     };
-    match next_token(text) {
+    match next_token(after) {
         (Token::Number(number), rest) => Some((number, rest)),
         (Token::Word(_), _) => None,
     }

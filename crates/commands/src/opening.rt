@@ -15,7 +15,7 @@ pub enum KindWord {
 }
 
 // Why a text is refused.
-#[derive(Clone, Copy, PartialEq, Eq, Debug)]
+#[derive(Clone, Copy)]
 pub enum TextFault {
     // The text has more than 4,096 bytes.
     TooLong,

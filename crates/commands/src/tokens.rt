@@ -2,7 +2,7 @@
 ghost use mathlib.Core.Path.{_≡_};
 ghost use Rattle.std.specs.Options.{Cases};
 ghost use Rattle.commands.specs.Numbers.{isDigit, IsNumeral, valueOf, capped};
-ghost use Rattle.commands.specs.Parts.{Front};
+ghost use Rattle.commands.specs.Parts.{Parted, Front};
 use crate::scan::length_before;
 
 // A number: one or more digits as they stand in the line, and what they write, or 65,536 if that is more.
@@ -44,13 +44,19 @@ fn number_of(bytes: &[u8]) -> Option<u32>
     Some(value)
 }
 
+// What stands before the first space, or in all where there is none, and what follows it.
+fn split_token<'a>(text: &'a [u8]) -> (&'a [u8], &'a [u8])
+    ensures { λ r. ⌜ Parted (now (text .entry)) (now (r .0)) (now (r .1)) ⌝ }
+{
+    let n = length_before(text, b' ');
+    (&text[0..n], &text[n..])
+}
+
 // The token before the first space, or to the end, and what follows it: nothing, or a space and more.
 pub fn next_token<'a>(text: &'a [u8]) -> (Token<'a>, &'a [u8])
     ensures { λ r. ⌜ Front (now (text .entry)) (r .0) (now (r .1)) ⌝ }
 {
-    let n = length_before(text, b' ');
-    let bytes = &text[0..n];
-    let rest = &text[n..];
+    let (bytes, rest) = split_token(text);
     match number_of(bytes) {
         Some(value) => (
             Token::Number(Numeral {

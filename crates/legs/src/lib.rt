@@ -8,9 +8,8 @@
 // leads there. Every put into the search's queue finds a place. Nothing is allocated.
 // Not promised: over which legs a best way goes. Whether the legs are those of a map is not known here.
 ghost use mathlib.Core.Path.{_≡_};
-ghost use mathlib.Core.Bool.{true, false};
 ghost use mathlib.Core.List.{_∷_};
-ghost use Prim.Native.Nat.{ℕ, _+_, _<_, _≤_, min};
+ghost use Prim.Native.Nat.{ℕ, _+_, _<_, _≤_};
 ghost use denote.Ref.{name};
 ghost use lib.Dec.{eqb};
 ghost use lib.ListN.{length};
@@ -24,9 +23,9 @@ ghost use Rattle.entries.specs.Records.{NodeAhead};
 ghost use Rattle.walks.specs.Streets.{emptySet};
 ghost use Rattle.walks.specs.Trees.{Tells};
 ghost use Rattle.walks.specs.Walks.{Leads, BestOpen};
-ghost use Rattle.walks.specs.Legs.{grid, legBetween};
-ghost use Rattle.legs.specs.Tables.{positionsOf, isPosition, arePositions, cellOf, legOf, noLegs, withLeg, lengthAt, positionAt};
-ghost use Rattle.legs.specs.Searches.{openLegs, adding, addingAll, unreached, pairs, Searched};
+ghost use Rattle.walks.specs.Legs.{grid};
+ghost use Rattle.legs.specs.Tables.{positionsOf, legOf, lengthAt, positionAt};
+ghost use Rattle.legs.specs.Searches.{Lengths, openLegs, adding, addingAll, unreached, pairs, Searched};
 use entries::ByLength;
 use entries::ByLengthOrder;
 use entries::Node;
@@ -36,123 +35,13 @@ use lengths::Length;
 use lengths::Zeroed;
 use queue::PriorityQueue;
 
+mod filling;
 mod table;
 
 pub use table::LegTable;
 
 // The node that stands for the goal.
 const GOAL: u16 = 31;
-
-// The cell of the leg from one node to another.
-fn cell(from: u16, to: u16) -> usize
-    requires { ⌜ (from ≤ 16) × (to ≤ 31) ⌝ }
-    ensures { λ r. ⌜ r ≡ cellOf from to ⌝ }
-{
-    let column = if to == GOAL { 0 } else { to };
-    (from * 17 + column) as usize
-}
-
-impl LegTable {
-    /// A table for `count` list positions, at most 16, with no leg.
-    pub fn new(count: u16) -> LegTable
-        ensures positions { λ r. ⌜ positionsOf r ≡ min count 16 ⌝ }
-        ensures legs { λ r. ⌜ legOf r ≡ noLegs ⌝ }
-    {
-        LegTable {
-            count: count.min(16),
-            present: [false; 289],
-            lengths: [0; 289],
-        }
-    }
-
-    /// The leg from one node to another: 0 is the start, 1 to 16 are list positions, 31 is the goal.
-    pub fn leg(&self, from: u16, to: u16) -> Option<u64>
-        ensures { λ r. ⌜ r ≡ legOf (now (self .entry)) from to ⌝ }
-    {
-        if !self.joins(from, to) {
-            return None;
-        }
-        let at = cell(from, to);
-        if self.present[at] {
-            Some(self.lengths[at])
-        } else {
-            None
-        }
-    }
-
-    /// Sets the length from the start to a list position; any other number changes nothing.
-    pub fn set_access(&mut self, position: u16, length: Option<u64>)
-        ensures positions { λ _. ⌜ positionsOf (now (self .exit)) ≡ positionsOf (now (self .entry)) ⌝ }
-        ensures legs { λ _. ⌜ legOf (now (self .exit)) ≡ withLeg (isPosition (positionsOf (now (self .entry))) position) 0 position length (legOf (now (self .entry))) ⌝ }
-        ensures same { λ _. ⌜ (isPosition (positionsOf (now (self .entry))) position ≡ false → now (self .exit) ≡ now (self .entry)) ⌝ }
-    {
-        self.set_if(self.holds(position), 0, position, length);
-    }
-
-    /// Sets the length from one list position to another; equal positions and any other number change nothing.
-    pub fn set_between(&mut self, from: u16, to: u16, length: Option<u64>)
-        ensures positions { λ _. ⌜ positionsOf (now (self .exit)) ≡ positionsOf (now (self .entry)) ⌝ }
-        ensures legs { λ _. ⌜ legOf (now (self .exit)) ≡ withLeg (arePositions (positionsOf (now (self .entry))) from to) from to length (legOf (now (self .entry))) ⌝ }
-        ensures same { λ _. ⌜ (arePositions (positionsOf (now (self .entry))) from to ≡ false → now (self .exit) ≡ now (self .entry)) ⌝ }
-    {
-        self.set_if(
-            self.holds(from) && self.holds(to) && from != to,
-            from,
-            to,
-            length,
-        );
-    }
-
-    /// Sets the length from a list position to the goal; any other number changes nothing.
-    pub fn set_egress(&mut self, position: u16, length: Option<u64>)
-        ensures positions { λ _. ⌜ positionsOf (now (self .exit)) ≡ positionsOf (now (self .entry)) ⌝ }
-        ensures legs { λ _. ⌜ legOf (now (self .exit)) ≡ withLeg (isPosition (positionsOf (now (self .entry))) position) position 31 length (legOf (now (self .entry))) ⌝ }
-        ensures same { λ _. ⌜ (isPosition (positionsOf (now (self .entry))) position ≡ false → now (self .exit) ≡ now (self .entry)) ⌝ }
-    {
-        self.set_if(self.holds(position), position, GOAL, length);
-    }
-
-    /// Sets the length from the start straight to the goal.
-    pub fn set_direct(&mut self, length: Option<u64>)
-        ensures positions { λ _. ⌜ positionsOf (now (self .exit)) ≡ positionsOf (now (self .entry)) ⌝ }
-        ensures legs { λ _. ⌜ legOf (now (self .exit)) ≡ withLeg true 0 31 length (legOf (now (self .entry))) ⌝ }
-    {
-        self.set_if(true, 0, GOAL, length);
-    }
-
-    // Whether there is such a list position.
-    fn holds(&self, position: u16) -> bool
-        ensures { λ r. ⌜ r ≡ isPosition (positionsOf (now (self .entry))) position ⌝ }
-    {
-        1 <= position && position <= self.count
-    }
-
-    // Whether there may be a leg from one node to another.
-    fn joins(&self, from: u16, to: u16) -> bool
-        ensures { λ r. ⌜ r ≡ legBetween (positionsOf (now (self .entry))) from to ⌝ }
-    {
-        from <= self.count && (self.holds(to) || to == GOAL) && from != to
-    }
-
-    // Sets a leg, if it may be there.
-    fn set_if(&mut self, holds: bool, from: u16, to: u16, length: Option<u64>)
-        requires { ⌜ (holds ≡ true → legBetween (positionsOf (now self)) from to ≡ true) ⌝ }
-        ensures positions { λ _. ⌜ positionsOf (now (self .exit)) ≡ positionsOf (now (self .entry)) ⌝ }
-        ensures legs { λ _. ⌜ legOf (now (self .exit)) ≡ withLeg holds from to length (legOf (now (self .entry))) ⌝ }
-        ensures same { λ _. ⌜ (holds ≡ false → now (self .exit) ≡ now (self .entry)) ⌝ }
-    {
-        if holds {
-            let at = cell(from, to);
-            match length {
-                Some(code) => {
-                    self.lengths[at] = code;
-                    self.present[at] = true;
-                }
-                None => self.present[at] = false,
-            }
-        }
-    }
-}
 
 /// The best lengths from the start that a search has found.
 #[derive(Clone, Copy)]
@@ -179,15 +68,13 @@ impl Reached {
         }
     }
 
-    // The start alone is reached, with length zero.
-    fn start(zero: u64) -> Reached
-        ensures { λ r. ⌜ lengthAt r ≡ update eqb (λ _. None) 0 (Some zero) ⌝ }
+    // No node is reached.
+    fn none() -> Reached
+        ensures { λ r. ⌜ lengthAt r ≡ (λ _. None) ⌝ }
     {
-        let mut reached = Reached {
+        Reached {
             lengths: [None; 32],
-        };
-        reached.settle(0, zero);
-        reached
+        }
     }
 
     // The length of a node, absent if it is not reached.
@@ -236,6 +123,24 @@ fn put_leg<K: Length>(
     }
 }
 
+// Puts the goal, unless it is reached, if egress leads there from a position, or the direct length from the start.
+fn put_goal<K: Length>(
+    legs: &LegTable,
+    from: u16,
+    walked: u64,
+    reached: &Reached,
+    queue: &mut PriorityQueue<'_, Node>,
+)
+    requires ordered { ⌜ Ordered (NodeAhead (K·Length .kind)) (now queue) ⌝ }
+    requires fits { ⌜ (lengthAt (now reached) 31 ≡ None → length (held (now queue)) < room (now queue)) ⌝ }
+    ensures ordered { λ _. ⌜ Ordered (NodeAhead (K·Length .kind)) (now (queue .exit)) ⌝ }
+    ensures room { λ _. ⌜ room (now (queue .exit)) ≡ room (now (queue .entry)) ⌝ }
+    ensures lender { λ _. ⌜ name (now (queue .exit) .places) ≡ name (now (queue .entry) .places) ⌝ }
+    ensures held { λ _. ⌜ Shuffled (adding (K·Length .kind) walked 31 (openLegs (lengthAt (now (reached .entry))) (legOf (now (legs .entry)) from) 31) (held (now (queue .entry)))) (held (now (queue .exit))) ⌝ }
+{
+    put_leg::<K>(legs, from, GOAL, walked, reached, queue);
+}
+
 // Puts each node to which a leg leads from `from`, whose length is `walked`, unless it is reached.
 fn put_legs<K: Length>(
     legs: &LegTable,
@@ -254,7 +159,28 @@ fn put_legs<K: Length>(
     for i in 0..legs.count {
         put_leg::<K>(legs, from, i + 1, walked, reached, queue);
     }
-    put_leg::<K>(legs, from, GOAL, walked, reached, queue);
+    put_goal::<K>(legs, from, walked, reached, queue);
+}
+
+// The node is reached, its length is `walked`, and it is left over its legs.
+fn reach<K: Length>(
+    legs: &LegTable,
+    node: u16,
+    walked: u64,
+    reached: &mut Reached,
+    queue: &mut PriorityQueue<'_, Node>,
+)
+    requires node { ⌜ node < 32 ⌝ }
+    requires ordered { ⌜ Ordered (NodeAhead (K·Length .kind)) (now queue) ⌝ }
+    requires fits { ⌜ ((L : Lengths) → L ≡ update eqb (lengthAt (now reached)) node (Some walked) → length (held (now queue)) + unreached L (positionsOf (now legs)) ≤ room (now queue)) ⌝ }
+    ensures ordered { λ _. ⌜ Ordered (NodeAhead (K·Length .kind)) (now (queue .exit)) ⌝ }
+    ensures room { λ _. ⌜ room (now (queue .exit)) ≡ room (now (queue .entry)) ⌝ }
+    ensures lender { λ _. ⌜ name (now (queue .exit) .places) ≡ name (now (queue .entry) .places) ⌝ }
+    ensures lengths { λ _. ⌜ lengthAt (now (reached .exit)) ≡ update eqb (lengthAt (now (reached .entry))) node (Some walked) ⌝ }
+    ensures held { λ _. ⌜ Shuffled (addingAll (K·Length .kind) (openLegs (lengthAt (now (reached .exit))) (legOf (now (legs .entry)) node)) walked (positionsOf (now (legs .entry))) (held (now (queue .entry)))) (held (now (queue .exit))) ⌝ }
+{
+    reached.settle(node, walked);
+    put_legs::<K>(legs, node, walked, reached, queue);
 }
 
 // One turn of the search: the best node that waits is reached, with its length, unless it was reached before.
@@ -276,8 +202,7 @@ fn visit<K: Length>(
 {
     let node = best.position;
     if reached.length(node).is_none() {
-        reached.settle(node, best.length);
-        put_legs::<K>(legs, node, best.length, reached, queue);
+        reach::<K>(legs, node, best.length, reached, queue);
     }
 }
 
@@ -287,13 +212,13 @@ pub fn search<K: Zeroed>(legs: &LegTable) -> Reached
     ensures reached { λ r. ⌜ ((v : ℕ) → Tells (isSome (lengthAt r v)) (Leads (grid (legOf (now (legs .entry)))) emptySet 0 v)) ⌝ }
 {
     let zero = K::ZERO.code();
-    let mut reached = Reached::start(zero);
+    let mut reached = Reached::none();
     let mut places = [Node {
         length: 0,
         position: 0,
     }; 153];
     let mut queue = PriorityQueue::new::<ByLength<K>>(&mut places);
-    put_legs::<K>(legs, 0, zero, &reached, &mut queue);
+    reach::<K>(legs, 0, zero, &mut reached, &mut queue);
     while let Some(best) = queue.take::<ByLength<K>>() {
         visit::<K>(legs, best, &mut reached, &mut queue);
     }

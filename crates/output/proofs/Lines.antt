@@ -23,14 +23,6 @@ one-digit n h = let e : 48 + n ≡ 48 + n % 10 = omega arith in decimal-digit n 
 pub joined : (p q r a b : List ℕ) → q ≡ p ++ a → r ≡ q ++ b → r ≡ p ++ (a ++ b)
 joined p q r a b e f = f ∙ ap (λ l. l ++ b) e ∙ append-assoc p a b
 
--- words and a number, and the end of the line
-pub one-field : (p q r w n : List ℕ) → q ≡ p ++ (w ++ n) → r ≡ q ++ (10 ∷ []) → r ≡ p ++ (w ++ (n ++ (10 ∷ [])))
-one-field p q r w n e f = joined p q r (w ++ n) (10 ∷ []) e f ∙ ap (λ l. p ++ l) (append-assoc w n (10 ∷ []))
-
--- words and a number, twice, and the end of the line
-pub two-fields : (p q r s w v n m : List ℕ) → q ≡ p ++ (w ++ n) → r ≡ q ++ (v ++ m) → s ≡ r ++ (10 ∷ []) → s ≡ p ++ (w ++ (n ++ (v ++ (m ++ (10 ∷ [])))))
-two-fields p q r s w v n m e f g = joined p q s (w ++ n) _ e (one-field q r s v m f g) ∙ ap (λ l. p ++ l) (append-assoc w n _)
-
--- words and a number, two more parts, and the end of the line
-pub with-digits : (p q r s t w n v d : List ℕ) → q ≡ p ++ (w ++ n) → r ≡ q ++ v → s ≡ r ++ d → t ≡ s ++ (10 ∷ []) → t ≡ p ++ (w ++ (n ++ (v ++ (d ++ (10 ∷ [])))))
-with-digits p q r s t w n v d e f g h = joined p q t (w ++ n) _ e (joined q r t v _ f (joined r s t d (10 ∷ []) g h)) ∙ ap (λ l. p ++ l) (append-assoc w n _)
+-- words and a number, and more after them
+pub after-field : (p q r w n more : List ℕ) → q ≡ p ++ (w ++ n) → r ≡ q ++ more → r ≡ p ++ (w ++ (n ++ more))
+after-field p q r w n more e f = joined p q r (w ++ n) more e f ∙ ap (λ l. p ++ l) (append-assoc w n more)

@@ -39,8 +39,8 @@ loop-i-again g c =
     let told = c .put-leg .ensures in
     (told .ordered, told .room ∙ i .1, told .lender ∙ i .2, positions-more (g .K·Length .kind) (openLegs L d) (c .args .walked) hs (c .loop-i .i) _ _ (i .3) (told .held))
 
-pub put-leg-requires-2 : need.put-leg-requires-2
-put-leg-requires-2 g c κs =
+pub put-goal-requires : need.put-goal-requires
+put-goal-requires g c κs =
     let t = c .args .legs .now in
     let i = c .loop-i .inv in
     let h = c .pre .fits in
@@ -51,7 +51,6 @@ put-leg-requires-2 g c κs =
     let s : Shuffled (addingPositions (g .K·Length .kind) d (c .args .walked) (t .count) hs) (held (c .loop-i .queue)) =
     subst (λ k. Shuffled (addingPositions (g .K·Length .kind) d (c .args .walked) k hs) (held (c .loop-i .queue))) e (i .3) in
     record {
-      node = omega arith;
       ordered = i .0;
       fits = λ n. goal-room (g .K·Length .kind) (lengthAt (c .args .reached .now)) (legOf t (c .args .from)) (c .args .walked) (held (c .args .queue .now)) (t .count) (room (c .loop-i .queue)) (held (c .loop-i .queue)) (omega arith) s n;
     }
@@ -60,7 +59,7 @@ pub returns : need.returns
 returns g c =
     let t = c .args .legs .now in
     let i = c .loop-i .inv in
-    let told = c .put-leg-2 .ensures in
+    let told = c .put-goal .ensures in
     let e : c .loop-i .i ≡ t .count = omega arith in
     let d = openLegs (lengthAt (c .args .reached .now)) (legOf t (c .args .from)) in
     let hs = held (c .args .queue .now) in

@@ -1,5 +1,5 @@
-use mathlib.Core.Path.{_≡_, refl, ap, subst, _∙_}
-use mathlib.Core.List.{[]}
+use mathlib.Core.Path.{_≡_, refl, ap, ap₂, subst, _∙_}
+use mathlib.Core.List.{[], _∷_}
 use Prim.Native.Nat.{ℕ}
 use native.Mathlib.Omega.{arith}
 use lib.Dec.{eqb}
@@ -19,27 +19,31 @@ use Rattle.legs.proofs.Spreads.{unreached-le}
 use Rattle.legs.proofs.Searching.{table-legs, searched-first, searched-shuffled, searched-end}
 use Rattle.legs.proofs.search.Needs as need
 
-pub put-legs-requires : need.put-legs-requires
-put-legs-requires g c κs =
+pub reach-requires : need.reach-requires
+reach-requires g c κs =
     let t = c .args .legs .now in
     let few = t .few in
     let e = ap length (c .new-queue .ensures .held) in
     let r = c .new-queue .ensures .room in
-    let u = unreached-le (lengthAt (c .start-reached .result)) (t .count) in
-    record { ordered = c .new-queue .ensures .ordered; fits = omega arith }
+    record {
+      node = omega arith;
+      ordered = c .new-queue .ensures .ordered;
+      fits = λ L is. let u = unreached-le L (t .count) in omega arith;
+    }
 
 pub loop-best-holds : need.loop-best-holds
 loop-best-holds g c =
     let K = g .K·Length .kind in
     let t = c .args .legs .now in
-    let told = c .put-legs .ensures in
-    let L = lengthAt (c .start-reached .result) in
+    let told = c .reach .ensures in
+    let L = lengthAt (c .reach .last .reached) in
     let d = openLegs L (legOf t 0) in
-    let ts = held (c .put-legs .last .queue) in
+    let ts = held (c .reach .last .queue) in
     let z : c .code-zero .result ≡ K .zero = c .code-zero .ensures ∙ g .K·Zeroed·met .fixed _ in
     let s : Shuffled (addingAll K d (K .zero) (t .count) []) ts =
     subst (λ x. Shuffled (addingAll K d x (t .count) []) ts) z (subst (λ x. Shuffled (addingAll K d (c .code-zero .result) (t .count) x) ts) (c .new-queue .ensures .held) (told .held)) in
-    let e : L ≡ update eqb (λ _. None) 0 (Some (K .zero)) = c .start-reached .ensures ∙ ap (λ (x : ℕ). update eqb (λ _. None) 0 (Some x)) z in
+    let e : L ≡ update eqb (λ _. None) 0 (Some (K .zero)) =
+    told .lengths ∙ ap₂ (λ (M : Lengths) (x : ℕ). update eqb M 0 (Some x)) (c .none-reached .ensures) z in
     (told .ordered, told .room ∙ c .new-queue .ensures .room, refl, searched-first K (g .K·Length·met .lawful) (legOf t) (t .count) (table-legs t) L ts e s)
 
 pub visit-requires : need.visit-requires
@@ -47,13 +51,15 @@ visit-requires g c κs =
     let t = c .args .legs .now in
     let i = c .loop-best .inv in
     let rem = c .in-Some .ensures tt .cases in
+    let hs = held (c .loop-best .queue) in
+    let ts = c .in-Some .best ∷ held (c .take .last .self) in
     let r = c .take .ensures .room in
     let j = i .1 in
     record {
       ordered = c .take .ensures .ordered;
       fits = omega arith;
-      searched = searched-shuffled (g .K·Length .kind) (g .K·Length·met .lawful) (legOf t) (t .count) (table-legs t) (lengthAt (c .loop-best .reached)) _ _ (rem .shuffled) (i .3);
-      best = all-shuffled (NodeAhead (g .K·Length .kind) (c .in-Some .best)) _ _ (rem .shuffled) (rem .best) .1;
+      searched = searched-shuffled (g .K·Length .kind) (g .K·Length·met .lawful) (legOf t) (t .count) (table-legs t) (lengthAt (c .loop-best .reached)) hs ts (rem .shuffled) (i .3);
+      best = all-shuffled (NodeAhead (g .K·Length .kind) (c .in-Some .best)) hs ts (rem .shuffled) (rem .best) .1;
     }
 
 pub returns : need.returns

@@ -2,6 +2,7 @@
 ghost use mathlib.Core.Path.{_≡_};
 ghost use mathlib.Core.List.{[], _++_};
 ghost use Prim.Native.Nat.{_+_, _≤_};
+ghost use lib.Chars.{codes};
 ghost use lib.Dec.{leb};
 ghost use lib.ListN.{length};
 ghost use Rattle.std.specs.Vec.{made};
@@ -70,12 +71,44 @@ impl Output {
     }
 
     // Appends words and a number in base ten.
-    pub(super) fn push_field(&mut self, words: &[u8], n: u64)
+    fn push_field(&mut self, words: &[u8], n: u64)
         requires { ⌜ length (printed (now self)) + length (now words) + 20 ≤ room ⌝ }
         ensures text { λ _. ⌜ printed (now (self .exit)) ≡ printed (now (self .entry)) ++ (now (words .entry) ++ decimal n) ⌝ }
         ensures short { λ _. ⌜ length (printed (now (self .exit))) ≤ length (printed (now (self .entry))) + length (now (words .entry)) + 20 ⌝ }
     {
         self.push_bytes(words);
         self.push_number(n);
+    }
+
+    // Appends a line of words and a number.
+    pub(super) fn push_line(&mut self, words: &[u8], n: u64)
+        requires { ⌜ length (printed (now self)) + length (now words) + 21 ≤ room ⌝ }
+        ensures text { λ _. ⌜ printed (now (self .exit)) ≡ printed (now (self .entry)) ++ (now (words .entry) ++ (decimal n ++ codes "\n")) ⌝ }
+        ensures short { λ _. ⌜ length (printed (now (self .exit))) ≤ length (printed (now (self .entry))) + length (now (words .entry)) + 21 ⌝ }
+    {
+        self.push_field(words, n);
+        self.push_bytes(b"\n");
+    }
+
+    // Appends a line of words and a number, twice.
+    pub(super) fn push_pair(&mut self, words: &[u8], n: u64, more: &[u8], m: u64)
+        requires { ⌜ length (printed (now self)) + length (now words) + length (now more) + 41 ≤ room ⌝ }
+        ensures text { λ _. ⌜ printed (now (self .exit)) ≡ printed (now (self .entry)) ++ (now (words .entry) ++ (decimal n ++ (now (more .entry) ++ (decimal m ++ codes "\n")))) ⌝ }
+        ensures short { λ _. ⌜ length (printed (now (self .exit))) ≤ length (printed (now (self .entry))) + length (now (words .entry)) + length (now (more .entry)) + 41 ⌝ }
+    {
+        self.push_field(words, n);
+        self.push_line(more, m);
+    }
+
+    // Appends a line of words, a number, more words and digits.
+    pub(super) fn push_copied(&mut self, words: &[u8], n: u64, more: &[u8], digits: &[u8])
+        requires { ⌜ length (printed (now self)) + length (now words) + length (now more) + length (now digits) + 21 ≤ room ⌝ }
+        ensures text { λ _. ⌜ printed (now (self .exit)) ≡ printed (now (self .entry)) ++ (now (words .entry) ++ (decimal n ++ (now (more .entry) ++ (now (digits .entry) ++ codes "\n")))) ⌝ }
+        ensures short { λ _. ⌜ length (printed (now (self .exit))) ≤ length (printed (now (self .entry))) + length (now (words .entry)) + length (now (more .entry)) + length (now (digits .entry)) + 21 ⌝ }
+    {
+        self.push_field(words, n);
+        self.push_bytes(more);
+        self.push_bytes(digits);
+        self.push_bytes(b"\n");
     }
 }

@@ -18,9 +18,7 @@ impl Output {
         ensures text { λ _. ⌜ printed (now (self .exit)) ≡ printed (now (self .entry)) ++ refusalLine line number ⌝ }
         ensures short { λ _. ⌜ length (printed (now (self .exit))) ≤ length (printed (now (self .entry))) + lineRoom ⌝ }
     {
-        self.push_field(b"refused ", line as u64);
-        self.push_field(b" ", number as u64);
-        self.push_bytes(b"\n");
+        self.push_pair(b"refused ", line as u64, b" ", number as u64);
     }
 
     // Appends the line of an answer, for which there is room.
@@ -31,19 +29,14 @@ impl Output {
     {
         match answer {
             Answer::Done => self.push_bytes(b"ok\n"),
-            Answer::Length(length, redone) => {
-                self.push_field(b"length ", length);
-                self.push_field(b" redone ", redone as u64);
-                self.push_bytes(b"\n");
-            }
-            Answer::NoWay(redone) => {
-                self.push_field(b"no way redone ", redone as u64);
-                self.push_bytes(b"\n");
-            }
-            Answer::Count(count) => {
-                self.push_field(b"tally ", count as u64);
-                self.push_bytes(b"\n");
-            }
+            Answer::Length(length, redone) => self.push_pair(
+                b"length ",
+                length,
+                b" redone ",
+                redone as u64,
+            ),
+            Answer::NoWay(redone) => self.push_line(b"no way redone ", redone as u64),
+            Answer::Count(count) => self.push_line(b"tally ", count as u64),
             Answer::Refused(fault) => self.push_refusal(line, fault.number()),
         }
     }
@@ -56,12 +49,12 @@ impl Output {
     {
         match fault {
             LineFault::NoForm => self.push_refusal(line, 51),
-            LineFault::TooLarge(digits) => {
-                self.push_field(b"refused ", line as u64);
-                self.push_bytes(b" 52 ");
-                self.push_bytes(digits);
-                self.push_bytes(b"\n");
-            }
+            LineFault::TooLarge(digits) => self.push_copied(
+                b"refused ",
+                line as u64,
+                b" 52 ",
+                digits,
+            ),
         }
     }
 

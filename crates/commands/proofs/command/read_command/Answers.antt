@@ -1,10 +1,6 @@
-use mathlib.Core.Path.{_≡_, sym, subst}
-use native.Mathlib.Omega.{arith}
-use borrow.Author.Needs.{needs}
-use lib.ListN.{length}
+use mathlib.Core.Path.{subst}
 use Rattle.std.specs.declared.result.Result.the-variants.{Err}
 use Rattle.commands.specs.Parts.{Front}
-use Rattle.commands.specs.Outcome.{Outcome}
 use Rattle.commands.specs.declared.command.LineFault.the-variants.{NoForm}
 use Rattle.commands.proofs.Lettered.{number-first, no-letter, letter-first}
 use Rattle.commands.proofs.Unique.{exact, within}
@@ -28,5 +24,5 @@ pub returns : need.returns
 returns c =
     let line = c .args .line .now in
     let f = subst (λ t. Front line t (c .next-token .result .1 .now)) (c .in-Word .is) (c .next-token .ensures) in
-    let told = subst (Outcome line) (sym {a = c .decide .result} (c .decide .ensures)) (letter-first line _ _ f (c .if-word-ne1 .left) (c .numbers-of .result) (c .numbers-of .ensures)) in
+    let told = letter-first line _ _ f (c .if-word-ne1 .left) (c .numbers-of .result) (c .numbers-of .ensures) (c .decide .result) (c .decide .ensures) in
     record { outcome = told; exact = exact line (c .decide .result) told; within = within line (c .decide .result) told }

@@ -6,10 +6,10 @@ pub returns-then-not-joins : need.returns-then-not-joins
 unfolding legOf
 returns-then-not-joins c = search needs
 
-pub returns-then-self-at : need.returns-then-self-at
+pub returns-then-self-place : need.returns-then-self-place
 unfolding legOf
-returns-then-self-at c = search needs
+returns-then-self-place c = search needs
 
-pub returns-else-self-at : need.returns-else-self-at
+pub returns-else-self-place : need.returns-else-self-place
 unfolding legOf
-returns-else-self-at c = search needs
+returns-else-self-place c = search needs
