@@ -23,10 +23,6 @@ use trees::bounded_run;
 use trees::bounded_run_against;
 use trees::bounded_tree;
 
-const FOUR: [Street; 5] = [(1, 2, 3), (2, 4, 4), (1, 3, 5), (3, 4, 5), (4, 1, 1)];
-
-const DIAMOND: [Street; 4] = [(1, 2, 1), (1, 3, 1), (2, 4, 1), (3, 4, 1)];
-
 // Loops, parallel streets of equal length, an empty slot, and the longest street.
 const ODD: [Street; 9] = [
     (1, 1, 0),

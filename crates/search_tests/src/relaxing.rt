@@ -1,4 +1,4 @@
-// A search of another make: every street is relaxed, over and over, until as many rounds have passed as there are junctions.
+// A search of another make: every street is relaxed, over and over, until nothing changes.
 use lengths::Coded;
 use lengths::Zeroed;
 use maps::Map;
@@ -21,8 +21,9 @@ fn may_take(q: &Question<'_>, e: u16, tail: u16) -> bool {
     tail == q.root || !q.transit.contains(&tail)
 }
 
-// One round over all slots.
-fn round<M: Map, K: Zeroed>(map: &M, q: &Question<'_>, lengths: &mut [Option<u64>; 130]) {
+// One round over all slots; whether something changed.
+fn round<M: Map, K: Zeroed>(map: &M, q: &Question<'_>, lengths: &mut [Option<u64>; 130]) -> bool {
+    let mut changed = false;
     for e in 1..513 {
         if let Some((tail, head, own)) = map.slot(e) {
             if tail < 130 && head < 130 && may_take(q, e, tail) {
@@ -34,11 +35,13 @@ fn round<M: Map, K: Zeroed>(map: &M, q: &Question<'_>, lengths: &mut [Option<u64
                     };
                     if better {
                         lengths[head as usize] = Some(new);
+                        changed = true;
                     }
                 }
             }
         }
     }
+    changed
 }
 
 // The best length of each junction.
@@ -47,7 +50,9 @@ pub(crate) fn relaxed<M: Map, K: Zeroed>(map: &M, q: &Question<'_>) -> [Option<u
     if q.root > 0 && q.root <= map.junctions() && q.root < 130 {
         lengths[q.root as usize] = Some(K::ZERO.code());
         for _ in 0..129 {
-            round::<M, K>(map, q, &mut lengths);
+            if !round::<M, K>(map, q, &mut lengths) {
+                return lengths;
+            }
         }
     }
     lengths
