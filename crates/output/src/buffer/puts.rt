@@ -29,12 +29,10 @@ impl Output {
     {
         match answer {
             Answer::Done => self.push_bytes(b"ok\n"),
-            Answer::Length(length, redone) => self.push_pair(
-                b"length ",
-                length,
-                b" redone ",
-                redone as u64,
-            ),
+            Answer::Length(length, redone) => {
+                let count = redone as u64;
+                self.push_pair(b"length ", length, b" redone ", count);
+            }
             Answer::NoWay(redone) => self.push_line(b"no way redone ", redone as u64),
             Answer::Count(count) => self.push_line(b"tally ", count as u64),
             Answer::Refused(fault) => self.push_refusal(line, fault.number()),
