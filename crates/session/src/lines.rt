@@ -63,7 +63,7 @@ fn print_lines(text: &[u8], answers: &[Answer], out: &mut Output)
 }
 
 // Works the lines of a text: the calls among them live one life over the map, and each line has its output line.
-pub fn answer_lines<M: TwoWay + Drop, K: Zeroed>(map: M, text: &[u8], out: &mut Output)
+pub(crate) fn answer_lines<M: TwoWay + Drop, K: Zeroed>(map: M, text: &[u8], out: &mut Output)
     requires { ⌜ (length (now text) ≤ 4096) × (printed (now out) ≡ []) ⌝ }
     ensures { λ _. ⌜ Answered (K·Length .kind) (M·Map .graph map) (linesOf (now (text .entry))) (printed (now (out .exit))) ⌝ }
 {
