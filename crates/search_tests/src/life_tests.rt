@@ -169,3 +169,40 @@ fn looks_end_with_the_list(rt: LibcRuntime) -> Result<(), Fail> {
     check_eq(index.look_leg(1, 2), None)?;
     check_eq(index.look_index(5, 2), None)
 }
+
+// Sixteen junctions are named, and one of them when they are named anew.
+#[test]
+fn one_named_after_sixteen(rt: LibcRuntime) -> Result<(), Fail> {
+    let streets = dense(rt.alloc(), 16, Some(1))?;
+    let bytes = drawn(rt.alloc(), 16, streets.as_slice())?;
+    let mut map = least_sheet();
+    open_sheet(bytes.as_slice(), &mut map)?;
+    let mut plan = Plan::<Sheet<'_>, Paces>::new(map);
+    let _ = plan.name(1);
+    let _ = plan.name(2);
+    let _ = plan.name(3);
+    let _ = plan.name(4);
+    let _ = plan.name(5);
+    let _ = plan.name(6);
+    let _ = plan.name(7);
+    let _ = plan.name(8);
+    let _ = plan.name(9);
+    let _ = plan.name(10);
+    let _ = plan.name(11);
+    let _ = plan.name(12);
+    let _ = plan.name(13);
+    let _ = plan.name(14);
+    let _ = plan.name(15);
+    let _ = plan.name(16);
+    let index = plan.build();
+    check_eq(index.look_tree(16, 1), Some((241, 1)))?;
+    check_eq(index.look_leg(2, 16), Some(1))?;
+    let mut plan = index.replan();
+    let _ = plan.name(5);
+    let index = plan.build();
+    check_eq(index.look_tree(1, 1), Some((65, 1)))?;
+    check_eq(index.look_tree(2, 1), None)?;
+    check_eq(index.look_leg(1, 2), None)?;
+    check_eq(index.look_index(65, 1), Some(1))?;
+    check_eq(index.look_index(65, 2), None)
+}
