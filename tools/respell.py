@@ -13,7 +13,7 @@ import os
 import re
 import sys
 
-TOKEN = r'[^\s(){}.;,@"«»\[\]|`]+'
+TOKEN = r'[^\s(){}.;,:@"«»\[\]|`]+'
 # Lemmas and fields that would fall together with a definition of the same words.
 APART = {
     it: it.replace("-", "_") + "_lem"

@@ -14,9 +14,9 @@ use std::marker::PhantomData;
 
 /// A record that is told by a length and a number.
 pub trait Entry {
-    ghost lengthOf: { Self → ℕ };
+    ghost length_of: { Self → ℕ };
 
-    ghost tieOf: { Self → ℕ };
+    ghost tie_of: { Self → ℕ };
 
     /// The length and the number.
     fn key(&self) -> (u64, u16)
