@@ -5,7 +5,7 @@ use Rattle.legs.specs.Tables.{position_at}
 use Rattle.tables.specs.Tables.{no_record}
 use Rattle.answering.specs.Handing.{is_counted}
 use Rattle.answering.proofs.count_redone.Goals as goal
-use Rattle.answering.proofs.count_redone.Goals.{then-is-redone, else-is-redone}
+use Rattle.answering.proofs.count_redone.Goals.{then-is_redone, else-is_redone}
 
 pub loop-i-preserved : goal.loop-i-preserved
 loop-i-preserved c =
@@ -13,14 +13,14 @@ loop-i-preserved c =
     let rs = c.args.trees.now in
     let i = c.loop-i.i in
     let is : i + 1 - 1 ≡ i = omega arith in
-    let test : is_counted r rs (i + 1) ≡ c.is-redone.result =
+    let test : is_counted r rs (i + 1) ≡ c.is_redone.result =
     ap (λ x. is_some (position_at r (i + 1)) && not (eqb (get_or rs x no_record).closed 0)) is
     ∙ ap (λ o. is_some o && not (eqb (get_or rs i no_record).closed 0)) (sym c.position.ensures)
-    ∙ sym c.is-redone.ensures in
+    ∙ sym c.is_redone.ensures in
     let more = passing_next (is_counted r rs) i in
-    elim c.if-is-redone.branch [
-      | then-is-redone w ↦ let one : bit (is_counted r rs (i + 1)) ≡ 1 = ap bit (test ∙ w.if-is-redone.true) in
+    elim c.if-is_redone.branch [
+      | then-is_redone w ↦ let one : bit (is_counted r rs (i + 1)) ≡ 1 = ap bit (test ∙ w.if-is_redone.true) in
           (omega (arith, w.redone-is, one, more, c.loop-i.invariant.0), omega (arith, w.redone-is, c.loop-i.invariant.1))
-      | else-is-redone w ↦ let none : bit (is_counted r rs (i + 1)) ≡ 0 = ap bit (test ∙ w.if-is-redone.false) in
+      | else-is_redone w ↦ let none : bit (is_counted r rs (i + 1)) ≡ 0 = ap bit (test ∙ w.if-is_redone.false) in
           (omega (arith, w.redone-is, none, more, c.loop-i.invariant.0), omega (arith, w.redone-is, c.loop-i.invariant.1))
     ]

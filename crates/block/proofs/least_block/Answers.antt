@@ -3,6 +3,6 @@ use Rattle.formats.specs.Scan.{lowest_in}
 use Rattle.block.specs.Refusal.{leads_out}
 use Rattle.block.proofs.least_block.Goals as goal
 
-pub invariant-of-result : goal.invariant-of-result
+pub invariant_of-result : goal.invariant_of-result
 unfolding lowest_in leads_out
-invariant-of-result c = ((refl, search rules), tt)
+invariant_of-result c = ((refl, search rules), tt)

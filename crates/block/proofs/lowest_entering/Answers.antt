@@ -24,7 +24,7 @@ loop-e-preserved c k lo hi l =
       | no ge ↦
           let same : k ≡ c.loop-e.e = omega arith in
           let here = subst (Enters (block_graph c.args.bytes.now) c.args.v) same l in
-          elim c.match-street-at.branch [
+          elim c.match-street_at.branch [
             | in-Some+else-head-v w ↦ w.if-head-v.false (ap head_of w.in-Some.ensures ∙ here.1)
             | in-default w ↦ let none : 0 ≡ c.args.v = ap head_of w.in-default.ensures ∙ here.1 in omega (arith, here.0)
           ]

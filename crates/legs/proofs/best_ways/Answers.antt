@@ -61,5 +61,5 @@ returns g c =
     let t = c.args.legs.now in
     let L = length_at c.loop-best.reached in
     let best = searched_end g.K.Length.kind g.met.K.Length.lawful (leg_of t) t.count (table_legs t) L
-    (subst (Searched g.K.Length.kind (leg_of t) t.count L) c.in-default.ensures.cases.none c.loop-best.invariant.3) in
+    (subst (Searched g.K.Length.kind (leg_of t) t.count L) c.in_default.ensures.cases.none c.loop-best.invariant.3) in
     record { best = best; reached = λ v. answer_leads g.K.Length.kind (grid (leg_of t)) empty_set 0 v (L v) (best v) }

@@ -14,8 +14,8 @@ loop-i-init g c =
     let d = leg_of c.args.legs.now c.args.from in
     (c.requires.ordered, refl, refl, subst (λ x. IsPermutation x hs) (sym (positions_none g.K.Length.kind (open_legs L d) c.args.walked hs)) (IsPermutation-refl hs))
 
-pub put-leg-requires : goal.put-leg-requires
-put-leg-requires g c =
+pub put_leg-requires : goal.put_leg-requires
+put_leg-requires g c =
     let hs = held c.args.queue.now in
     let L = length_at c.args.reached.now in
     let t = c.args.legs.now in
@@ -35,11 +35,11 @@ loop-i-preserved g c =
     let L = length_at c.args.reached.now in
     let d = leg_of c.args.legs.now c.args.from in
     let i = c.loop-i.invariant in
-    let told = c.put-leg.ensures in
+    let told = c.put_leg.ensures in
     (told.ordered, told.room ∙ i.1, told.lender ∙ i.2, positions_more g.K.Length.kind (open_legs L d) c.args.walked hs c.loop-i.i _ _ i.3 told.held)
 
-pub put-goal-requires : goal.put-goal-requires
-put-goal-requires g c =
+pub put_goal-requires : goal.put_goal-requires
+put_goal-requires g c =
     let t = c.args.legs.now in
     let i = c.loop-i.invariant in
     let h = c.requires.fits in
@@ -58,7 +58,7 @@ pub returns : goal.returns
 returns g c =
     let t = c.args.legs.now in
     let i = c.loop-i.invariant in
-    let told = c.put-goal.ensures in
+    let told = c.put_goal.ensures in
     let e : c.loop-i.i ≡ t.count = omega arith in
     let d = open_legs (length_at c.args.reached.now) (leg_of t c.args.from) in
     let hs = held c.args.queue.now in

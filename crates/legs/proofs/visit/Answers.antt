@@ -14,7 +14,7 @@ pub reach-requires : goal.reach-requires
 reach-requires g c =
     let t = c.args.legs.now in
     let L = length_at c.args.reached.now in
-    let n = is_none_lem c.length.result (L c.args.best.position) c.length.ensures c.if-is-none.ensures in
+    let n = is_none_lem c.length.result (L c.args.best.position) c.length.ensures c.if-is_none.ensures in
     let f = c.requires.fits in
     record {
       node = searched_bound g.K.Length.kind g.met.K.Length.lawful (leg_of t) t.count (table_legs t) L c.args.best (held c.args.queue.now) c.requires.underway;
@@ -22,13 +22,13 @@ reach-requires g c =
       fits = λ M is. let r = searched_room g.K.Length.kind g.met.K.Length.lawful (leg_of t) t.count (table_legs t) L c.args.best (held c.args.queue.now) c.requires.underway c.requires.best n M is in omega arith;
     }
 
-pub returns-then-is-none : goal.returns-then-is-none
-returns-then-is-none g c =
+pub returns-then-is_none : goal.returns-then-is_none
+returns-then-is_none g c =
     let t = c.args.legs.now in
     let L = length_at c.args.reached.now in
     let M = length_at c.reach.new.reached in
     let ts = held c.reach.new.queue in
-    let n = is_none_lem c.length.result (L c.args.best.position) c.length.ensures c.if-is-none.ensures in
+    let n = is_none_lem c.length.result (L c.args.best.position) c.length.ensures c.if-is_none.ensures in
     let told = c.reach.ensures in
     record {
       ordered = told.ordered;
@@ -38,10 +38,10 @@ returns-then-is-none g c =
       less = searched_less g.K.Length.kind g.met.K.Length.lawful (leg_of t) t.count (table_legs t) L c.args.best (held c.args.queue.now) c.requires.underway c.requires.best n M told.lengths ts told.held;
     }
 
-pub returns-else-is-none : goal.returns-else-is-none
-returns-else-is-none g c =
+pub returns-else-is_none : goal.returns-else-is_none
+returns-else-is_none g c =
     let t = c.args.legs.now in
-    let x = is_some c.length.result (length_at c.args.reached.now c.args.best.position) c.length.ensures c.if-is-none.ensures in
+    let x = is_some c.length.result (length_at c.args.reached.now c.args.best.position) c.length.ensures c.if-is_none.ensures in
     record {
       ordered = c.requires.ordered;
       room = refl {a = room c.args.queue.now};

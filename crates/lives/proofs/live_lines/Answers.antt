@@ -37,12 +37,12 @@ loop-i-2-preserved g c =
     × (c.loop-i.i ≤ c.loop-i-2.i + 1) in
     elim c.match-call.branch [
       | in-Some+in-default-call w ↦
-          let z = ap g.M.Map.graph w.plan-call.ensures.same in
+          let z = ap g.M.Map.graph w.plan_call.ensures.same in
           subst (λ (p : Plan g.row.M.Denot g.row.K.Denot). P p c.match-call.answers) (sym w.plan-is)
-          (subst (P w.plan-call.new.plan) (sym w.answers-is) (
-            w.plan-call.ensures.same ∙ c.loop-i-2.invariant.0,
-            subst (λ (x : Graph). PlanFits x w.plan-call.new.plan.tables) (sym z) w.plan-call.ensures.fits,
-            lived_call g.L.Line.meant g.K.Length.kind _ _ c.args.lines.now c.loop-i.answers c.loop-i-2.answers c.loop-i-2.i _ _ c.index-lines-i.result w.in-Some.call w.plan-call.result z c.loop-i-2.invariant.2 c.loop-i-2-test.true c.if-i-answers.true c.index-lines-i.is (sym w.in-Some.ensures) w.plan-call.ensures.answer w.plan-call.ensures.moment,
+          (subst (P w.plan_call.new.plan) (sym w.answers-is) (
+            w.plan_call.ensures.same ∙ c.loop-i-2.invariant.0,
+            subst (λ (x : Graph). PlanFits x w.plan_call.new.plan.tables) (sym z) w.plan_call.ensures.fits,
+            lived_call g.L.Line.meant g.K.Length.kind _ _ c.args.lines.now c.loop-i.answers c.loop-i-2.answers c.loop-i-2.i _ _ c.index-lines-i.result w.in-Some.call w.plan_call.result z c.loop-i-2.invariant.2 c.loop-i-2-test.true c.if-i-answers.true c.index-lines-i.is (sym w.in-Some.ensures) w.plan_call.ensures.answer w.plan_call.ensures.moment,
             omega (arith, c.loop-i-2.invariant.3),
           ))
       | in-default w ↦
@@ -71,8 +71,8 @@ loop-i-3-init g c =
       λ k e. let q : k ≡ c.loop-i-2.i = omega arith in rw q (call_here g.L.Line.meant c.args.lines.now c.loop-i-2.i b.0 Build c.if-i-lines.false b.1 b.2),
     )
 
-pub offset-bounds-answers-i-in-Some-call : goal.offset-bounds-answers-i-in-Some-call
-offset-bounds-answers-i-in-Some-call g c = omega (arith, c.if-i-answers-3.true, length-set c.loop-i-2.answers c.loop-i-2.i Done)
+pub offset_bounds-answers-i-in-Some-call : goal.offset_bounds-answers-i-in-Some-call
+offset_bounds-answers-i-in-Some-call g c = omega (arith, c.if-i-answers-3.true, length-set c.loop-i-2.answers c.loop-i-2.i Done)
 
 pub bounds-answers-i-in-Some-call : goal.bounds-answers-i-in-Some-call
 bounds-answers-i-in-Some-call g c = omega (arith, c.if-i-answers-3.true)
@@ -89,12 +89,12 @@ loop-i-3-preserved g c =
     × ((k : ℕ) → c.loop-i-2.i + 1 ≡ k + 1 → call_at g.L.Line.meant c.args.lines.now k ≡ Some Build) in
     elim c.match-call-3.branch [
       | in-Some-call+in-default-call-3 w ↦
-          let z = ap g.M.Map.graph w.index-call.ensures.same in
+          let z = ap g.M.Map.graph w.index_call.ensures.same in
           subst (λ (x : Index g.row.M.Denot g.row.K.Denot). P x c.match-call-3.answers) (sym w.index-is)
-          (subst (P w.index-call.new.index) (sym w.answers-is) (
-            w.index-call.ensures.same ∙ c.loop-i-3.invariant.0,
-            subst (λ (x : Graph). IndexFits g.K.Length.kind x w.index-call.new.index.tables) (sym z) w.index-call.ensures.fits,
-            lived_call g.L.Line.meant g.K.Length.kind _ _ c.args.lines.now before c.loop-i-3.answers c.loop-i-3.i _ _ c.index-lines-i-in-loop-i-3.result w.in-Some-call.call w.index-call.result z c.loop-i-3.invariant.2 c.loop-i-3-test.true c.if-i-answers-3.true c.index-lines-i-in-loop-i-3.is (sym w.in-Some-call.ensures) w.index-call.ensures.answer w.index-call.ensures.moment,
+          (subst (P w.index_call.new.index) (sym w.answers-is) (
+            w.index_call.ensures.same ∙ c.loop-i-3.invariant.0,
+            subst (λ (x : Graph). IndexFits g.K.Length.kind x w.index_call.new.index.tables) (sym z) w.index_call.ensures.fits,
+            lived_call g.L.Line.meant g.K.Length.kind _ _ c.args.lines.now before c.loop-i-3.answers c.loop-i-3.i _ _ c.index-lines-i-in-loop-i-3.result w.in-Some-call.call w.index_call.result z c.loop-i-3.invariant.2 c.loop-i-3-test.true c.if-i-answers-3.true c.index-lines-i-in-loop-i-3.is (sym w.in-Some-call.ensures) w.index_call.ensures.answer w.index_call.ensures.moment,
             omega (arith, c.loop-i-3.invariant.3),
             c.loop-i-3.invariant.4,
           ))
@@ -111,7 +111,7 @@ loop-i-3-preserved g c =
 
 pub returns-then-i-lines-2 : goal.returns-then-i-lines-2
 returns-then-i-lines-2 g c =
-    let s = c.into-map-then-i-lines-2.ensures ∙ c.loop-i-3.invariant.0 ∙ c.build-index.ensures.same ∙ c.loop-i-2.invariant.0 ∙ c.loop-i.invariant.0 ∙ c.new-plan.ensures.same in
+    let s = c.into_map-then-i-lines-2.ensures ∙ c.loop-i-3.invariant.0 ∙ c.build-index.ensures.same ∙ c.loop-i-2.invariant.0 ∙ c.loop-i.invariant.0 ∙ c.new-plan.ensures.same in
     let l = lived_since g.L.Line.meant g.K.Length.kind (g.M.Map.graph c.loop-i-3.index.map) c.args.lines.now c.args.answers.now (set c.loop-i-2.answers c.loop-i-2.i Done) c.loop-i-3.answers c.loop-i-3.i (moment_of true c.loop-i-3.index.tables)
     (length-set c.loop-i-2.answers c.loop-i-2.i Done ∙ c.loop-i-2.invariant.2.places ∙ c.loop-i.invariant.2.places)
     (λ j none. kept_set g.L.Line.meant c.args.lines.now c.loop-i-2.answers c.loop-i-2.i Build Done (c.loop-i-3.invariant.4 c.loop-i-2.i refl) j none ∙ c.loop-i-2.invariant.2.kept j none ∙ c.loop-i.invariant.2.kept j none)
@@ -119,7 +119,7 @@ returns-then-i-lines-2 g c =
     record {
       same = s;
       life = lived_front g.L.Line.meant g.K.Length.kind (g.M.Map.graph c.loop-i-3.index.map) (g.M.Map.graph c.args.map) c.args.lines.now c.args.answers.now c.loop-i-3.answers c.loop-i-3.i (moment_of true c.loop-i-3.index.tables)
-          (ap g.M.Map.graph (sym s ∙ c.into-map-then-i-lines-2.ensures)) l (⊎_elim inl (λ w. inr w.1) c.then-i-lines-2.either);
+          (ap g.M.Map.graph (sym s ∙ c.into_map-then-i-lines-2.ensures)) l (⊎_elim inl (λ w. inr w.1) c.then-i-lines-2.either);
       kept = l.kept;
     }
 

@@ -14,27 +14,27 @@ use Rattle.marking.proofs.close_street.Goals as goal
 pub bounds-tables-at : goal.bounds-tables-at
 bounds-tables-at g c =
     let m = c.args.map.now in
-    let w = street_slot (g.M.Map.graph m) (g.M.Map.lawful m) c.args.e (ap is_some (sym c.slot.ensures) ∙ c.if-is-none.ensures) in
+    let w = street_slot (g.M.Map.graph m) (g.M.Map.lawful m) c.args.e (ap is_some (sym c.slot.ensures) ∙ c.if-is_none.ensures) in
     omega (arith, w.0, w.1)
 
 pub bounds-tables-at-2 : goal.bounds-tables-at-2
 bounds-tables-at-2 g c =
     let m = c.args.map.now in
-    let w = street_slot (g.M.Map.graph m) (g.M.Map.lawful m) c.args.e (ap is_some (sym c.slot.ensures) ∙ c.if-is-none.ensures) in
+    let w = street_slot (g.M.Map.graph m) (g.M.Map.lawful m) c.args.e (ap is_some (sym c.slot.ensures) ∙ c.if-is_none.ensures) in
     omega (arith, w.0, w.1)
 
 pub bounds-tables-at-3 : goal.bounds-tables-at-3
 bounds-tables-at-3 g c =
     let m = c.args.map.now in
-    let w = street_slot (g.M.Map.graph m) (g.M.Map.lawful m) c.args.e (ap is_some (sym c.slot.ensures) ∙ c.if-is-none.ensures) in
+    let w = street_slot (g.M.Map.graph m) (g.M.Map.lawful m) c.args.e (ap is_some (sym c.slot.ensures) ∙ c.if-is_none.ensures) in
     omega (arith, w.0, w.1)
 
-pub raise-all-requires : goal.raise-all-requires
-raise-all-requires g c =
+pub raise_all-requires : goal.raise_all-requires
+raise_all-requires g c =
     let m = c.args.map.now in
     let G = g.M.Map.graph m in
     let x = c.args.tables.now in
-    let w = street_slot G (g.M.Map.lawful m) c.args.e (ap is_some (sym c.slot.ensures) ∙ c.if-is-none.ensures) in
+    let w = street_slot G (g.M.Map.lawful m) c.args.e (ap is_some (sym c.slot.ensures) ∙ c.if-is_none.ensures) in
     record {
       within = row_fits g.K.Length.kind g.met.K.Length.lawful G (g.M.Map.lawful m) x c.requires (omega arith) c.args.e w.0 w.1;
       room = row_room g.K.Length.kind g.met.K.Length.lawful G (g.M.Map.lawful m) x c.requires (omega arith) c.args.e w.0 w.1;
@@ -45,7 +45,7 @@ returns-then-tables-at g c =
     let m = c.args.map.now in
     let G = g.M.Map.graph m in
     let x = c.args.tables.now in
-    let p = ap is_some (sym c.slot.ensures) ∙ c.if-is-none.ensures in
+    let p = ap is_some (sym c.slot.ensures) ∙ c.if-is_none.ensures in
     let w = street_slot G (g.M.Map.lawful m) c.args.e p in
     let shut = closed_at x.closed c.args.e w.0 ∙ c.if-tables-at.true in
     let again = close_again G (closed_of x) c.args.e p shut in
@@ -64,17 +64,17 @@ returns g c =
     let G = g.M.Map.graph m in
     let x = c.args.tables.now in
     let e = c.args.e in
-    let new = c.raise-all.new.trees in
-    let p = ap is_some (sym c.slot.ensures) ∙ c.if-is-none.ensures in
+    let new = c.raise_all.new.trees in
+    let p = ap is_some (sym c.slot.ensures) ∙ c.if-is_none.ensures in
     let w = street_slot G (g.M.Map.lawful m) e p in
     let open-mark = closed_at x.closed e w.0 ∙ c.if-tables-at.false in
     let moment = closed_moment K g.met.K.Length.lawful G (g.M.Map.lawful m) x c.requires (omega arith) e w.0 w.1 new (omega arith) p open-mark in
     record {
       answer = ap outcome (sym (close_free G (closed_of x) e p open-mark));
       kept = λ no. absurd (true≢false no);
-      marked = λ _. record { whole = refl; counts = c.raise-all.ensures };
+      marked = λ _. record { whole = refl; counts = c.raise_all.ensures };
       fits =
-          closed_fits K g.met.K.Length.lawful G (g.M.Map.lawful m) x c.requires (omega arith) e w.0 w.1 new (omega arith) open-mark c.raise-all.ensures
+          closed_fits K g.met.K.Length.lawful G (g.M.Map.lawful m) x c.requires (omega arith) e w.0 w.1 new (omega arith) open-mark c.raise_all.ensures
           (subst (FitsMap G) (sym moment) (fits_after G (moment_of true x) (Close e) (fits_built G false true x c.requires.plan.moment)));
       moment = moment;
     }

@@ -13,27 +13,27 @@ use Rattle.marking.proofs.reopen_street.Goals as goal
 pub bounds-tables-at : goal.bounds-tables-at
 bounds-tables-at g c =
     let m = c.args.map.now in
-    let w = street_slot (g.M.Map.graph m) (g.M.Map.lawful m) c.args.e (ap is_some (sym c.slot.ensures) ∙ c.if-is-none.ensures) in
+    let w = street_slot (g.M.Map.graph m) (g.M.Map.lawful m) c.args.e (ap is_some (sym c.slot.ensures) ∙ c.if-is_none.ensures) in
     omega (arith, w.0, w.1)
 
 pub bounds-tables-at-2 : goal.bounds-tables-at-2
 bounds-tables-at-2 g c =
     let m = c.args.map.now in
-    let w = street_slot (g.M.Map.graph m) (g.M.Map.lawful m) c.args.e (ap is_some (sym c.slot.ensures) ∙ c.if-is-none.ensures) in
+    let w = street_slot (g.M.Map.graph m) (g.M.Map.lawful m) c.args.e (ap is_some (sym c.slot.ensures) ∙ c.if-is_none.ensures) in
     omega (arith, w.0, w.1)
 
 pub bounds-tables-at-3 : goal.bounds-tables-at-3
 bounds-tables-at-3 g c =
     let m = c.args.map.now in
-    let w = street_slot (g.M.Map.graph m) (g.M.Map.lawful m) c.args.e (ap is_some (sym c.slot.ensures) ∙ c.if-is-none.ensures) in
+    let w = street_slot (g.M.Map.graph m) (g.M.Map.lawful m) c.args.e (ap is_some (sym c.slot.ensures) ∙ c.if-is_none.ensures) in
     omega (arith, w.0, w.1)
 
-pub lower-all-requires : goal.lower-all-requires
-lower-all-requires g c =
+pub lower_all-requires : goal.lower_all-requires
+lower_all-requires g c =
     let m = c.args.map.now in
     let G = g.M.Map.graph m in
     let x = c.args.tables.now in
-    let w = street_slot G (g.M.Map.lawful m) c.args.e (ap is_some (sym c.slot.ensures) ∙ c.if-is-none.ensures) in
+    let w = street_slot G (g.M.Map.lawful m) c.args.e (ap is_some (sym c.slot.ensures) ∙ c.if-is_none.ensures) in
     record {
       within = row_fits g.K.Length.kind g.met.K.Length.lawful G (g.M.Map.lawful m) x c.requires (omega arith) c.args.e w.0 w.1;
       some = row_some g.K.Length.kind g.met.K.Length.lawful G (g.M.Map.lawful m) x c.requires (omega arith) c.args.e w.0 w.1 (closed_at x.closed c.args.e w.0 ∙ c.if-not-tables-at.false);
@@ -46,17 +46,17 @@ returns g c =
     let G = g.M.Map.graph m in
     let x = c.args.tables.now in
     let e = c.args.e in
-    let new = c.lower-all.new.trees in
-    let p = ap is_some (sym c.slot.ensures) ∙ c.if-is-none.ensures in
+    let new = c.lower_all.new.trees in
+    let p = ap is_some (sym c.slot.ensures) ∙ c.if-is_none.ensures in
     let w = street_slot G (g.M.Map.lawful m) e p in
     let shut = closed_at x.closed e w.0 ∙ c.if-not-tables-at.false in
     let moment = reopened_moment K g.met.K.Length.lawful G (g.M.Map.lawful m) x c.requires (omega arith) e w.0 w.1 new (omega arith) p shut in
     record {
       answer = ap outcome (sym (reopen_free G (closed_of x) e p shut));
       kept = λ no. absurd (true≢false no);
-      marked = λ _. record { whole = refl; counts = c.lower-all.ensures };
+      marked = λ _. record { whole = refl; counts = c.lower_all.ensures };
       fits =
-          reopened_fits K g.met.K.Length.lawful G (g.M.Map.lawful m) x c.requires (omega arith) e w.0 w.1 new (omega arith) shut c.lower-all.ensures
+          reopened_fits K g.met.K.Length.lawful G (g.M.Map.lawful m) x c.requires (omega arith) e w.0 w.1 new (omega arith) shut c.lower_all.ensures
           (subst (FitsMap G) (sym moment) (fits_after G (moment_of true x) (Reopen e) (fits_built G false true x c.requires.plan.moment)));
       moment = moment;
     }

@@ -11,9 +11,9 @@ pub returns-in-Ok : goal.returns-in-Ok
 returns-in-Ok c =
     let place = c.in-Ok.ensures.filled refl in
     opened _ (sym c.in-Ok.ensures.number)
-    (subst (λ (G : Graph). PrintsText G c.args.text.now (printed c.run-on.new.out)) (ap (λ b. sheet_graph b.now) place) c.run-on.ensures)
+    (subst (λ (G : Graph). PrintsText G c.args.text.now (printed c.run_on.new.out)) (ap (λ b. sheet_graph b.now) place) c.run_on.ensures)
 
 pub returns-in-Err : goal.returns-in-Err
 returns-in-Err c =
     refused_over (refusal c.args.bytes.now) (sheet_graph c.args.bytes.now) c.args.text.now c.in-Err.fault c.number.result _ _
-    c.in-Err.ensures.number c.number.ensures c.requires c.put-refusal.ensures
+    c.in-Err.ensures.number c.number.ensures c.requires c.put_refusal.ensures

@@ -3,4 +3,4 @@ use Rattle.session.proofs.Once.{prints_once}
 use Rattle.session.proofs.session_prints_once.Goals as goal
 
 pub returns : goal.returns
-returns c = record { once = prints_once c.kinds-are-lawful.ensures; zero = refl }
+returns c = record { once = prints_once c.kinds_are_lawful.ensures; zero = refl }

@@ -17,5 +17,5 @@ returns-then-v-eq0 c =
 pub returns : goal.returns
 returns c =
     let bs = c.args.bytes.now in
-    subst (Lowest (OnChain (sheet_graph bs) c.args.chain c.args.v) 0) (sym (c.some-link.ensures ∙ ap optional c.first-link.ensures))
+    subst (Lowest (OnChain (sheet_graph bs) c.args.chain c.args.v) 0) (sym (c.some_link.ensures ∙ ap optional c.first_link.ensures))
     ((linked bs (passed bs c.requires.0).links).first c.args.chain c.args.v (omega arith) (omega arith))

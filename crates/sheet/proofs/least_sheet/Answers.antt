@@ -3,6 +3,6 @@ use Rattle.formats.specs.Scan.{lowest_in}
 use Rattle.sheet.specs.Refusal.{wrong_record, wrong_link}
 use Rattle.sheet.proofs.least_sheet.Goals as goal
 
-pub invariant-of-result : goal.invariant-of-result
+pub invariant_of-result : goal.invariant_of-result
 unfolding lowest_in wrong_record wrong_link
-invariant-of-result c = ((refl, search rules), tt)
+invariant_of-result c = ((refl, search rules), tt)

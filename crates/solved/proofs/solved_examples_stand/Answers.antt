@@ -13,4 +13,4 @@ unfolding lowest_in wrong_record wrong_link leads_out
 tested = refl
 
 pub returns : goal.returns
-returns c = record { solved = all_stand c.kinds-are-lawful.ensures table tested; zero = refl }
+returns c = record { solved = all_stand c.kinds_are_lawful.ensures table tested; zero = refl }

@@ -13,11 +13,11 @@ loop-i-preserved g c =
     let e = c.args.e in
     let m = c.loop-i.i in
     let before : m ≡ m + 1 - 1 = omega arith in
-    let holds : c.holds-street-holds.result ≡ holds_street G (tree_in rs (m + 1)) e =
-    c.holds-street-holds.ensures ∙ ap (λ (x : ℕ). holds_street G (table_of (get_or rs x no_record).tree) e) before in (
-      omega (arith, c.add-holder.ensures.few, c.loop-i.invariant.0),
-      c.add-holder.ensures.list
-          ∙ ap (λ (xs : List ℕ). xs ++ cond c.holds-street-holds.result ((m + 1) ∷ []) []) c.loop-i.invariant.1
+    let holds : c.holds_street-holds.result ≡ holds_street G (tree_in rs (m + 1)) e =
+    c.holds_street-holds.ensures ∙ ap (λ (x : ℕ). holds_street G (table_of (get_or rs x no_record).tree) e) before in (
+      omega (arith, c.add_holder.ensures.few, c.loop-i.invariant.0),
+      c.add_holder.ensures.list
+          ∙ ap (λ (xs : List ℕ). xs ++ cond c.holds_street-holds.result ((m + 1) ∷ []) []) c.loop-i.invariant.1
           ∙ ap (λ (b : Bool). tree_positions G rs m e ++ cond b ((m + 1) ∷ []) []) holds
           ∙ sym (holders_more G rs m e),
     )

@@ -10,8 +10,8 @@ loop-at-preserved g c =
     let hs = c.loop-at.holders in
     let m = c.loop-at.at in
     let within : m < length hs = omega (arith, c.loop-at.invariant.1) in (
-      index_more (g.M.Map.graph c.args.map.now) c.args.trees.now c.args.count hs m c.holders-of.result within c.holders-of.ensures.few c.holders-of.ensures.list c.loop-at.invariant.0,
-      length-set hs m c.holders-of.result ∙ c.loop-at.invariant.1,
+      index_more (g.M.Map.graph c.args.map.now) c.args.trees.now c.args.count hs m c.holders_of.result within c.holders_of.ensures.few c.holders_of.ensures.list c.loop-at.invariant.0,
+      length-set hs m c.holders_of.result ∙ c.loop-at.invariant.1,
     )
 
 pub returns : goal.returns

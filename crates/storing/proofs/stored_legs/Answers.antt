@@ -17,9 +17,9 @@ loop-i-preserved c =
     let ns = c.args.transit.now in
     let m = c.loop-i.i in
     let before : m ≡ m + 1 - 1 = omega arith in (
-      c.fill-row.ensures.positions ∙ c.loop-i.invariant.0,
+      c.fill_row.ensures.positions ∙ c.loop-i.invariant.0,
       λ i j.
-          ap (λ L. L i j) c.fill-row.ensures.legs
+          ap (λ L. L i j) c.fill_row.ensures.legs
           ∙ ap (λ (k : ℕ). with_row k ns (m + 1) (table_of (get_or rs m no_record).tree) (leg_of c.loop-i.legs) i j) c.loop-i.invariant.0
           ∙ ap (λ (x : ℕ). with_row (length ns) ns (m + 1) (table_of (get_or rs x no_record).tree) (leg_of c.loop-i.legs) i j) before
           ∙ ap (λ (o : Option ℕ). with_row (length ns) ns (m + 1) (tree_in rs (m + 1)) (λ _ _. o) i j) (c.loop-i.invariant.1 i j)

@@ -8,8 +8,8 @@ returns g c =
     let G = g.M.Map.graph c.args.map.now in
     let K = g.K.Length.kind in
     let ns = c.args.transit.now in
-    let told = c.bounded-run.ensures in
-    let none = c.no-marks.ensures in
+    let told = c.bounded_run.ensures in
+    let none = c.no_marks.ensures in
     let all = ap (λ (F : ℕ → Bool). run_on K G ns F c.args.root) none in
     let from = ap (λ (F : ℕ → Bool). bounded_run K G ns F c.args.root) none in
     record { run = (cc); all_on_map = λ on. let it = told.all_on_map on in (cc) }

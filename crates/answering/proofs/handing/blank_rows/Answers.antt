@@ -9,7 +9,7 @@ use Rattle.tables.specs.Rows.{with_row}
 use Rattle.answering.specs.Handing.{RowsBlank}
 use Rattle.answering.proofs.Handed.{blank_none, blank_sound, blank_more}
 use Rattle.answering.proofs.handing.blank_rows.Goals as goal
-use Rattle.answering.proofs.handing.blank_rows.Goals.{then-is-affected, else-is-affected}
+use Rattle.answering.proofs.handing.blank_rows.Goals.{then-is_affected, else-is_affected}
 
 pub loop-i-init : goal.loop-i-init
 loop-i-init c = (blank_none 0 c.args.transit.now c.args.trees.now (leg_of c.args.legs.now), refl)
@@ -23,17 +23,17 @@ loop-i-preserved c =
     let D = c.loop-i.legs in
     let is : i + 1 - 1 ≡ i = omega arith in
     let count : count_in rs (i + 1) ≡ (get_or rs i no_record).closed = ap (λ x. (get_or rs x no_record).closed) is in
-    elim c.if-is-affected.branch [
-      | then-is-affected w ↦
-          let no = not-true (eqb (get_or rs i no_record).closed 0) (sym c.is-affected.ensures ∙ w.if-is-affected.true) in (
-            blank_more i ns rs old (leg_of D) c.loop-i.invariant.0 (leg_of c.if-is-affected.legs) c.loop-i-test.true
+    elim c.if-is_affected.branch [
+      | then-is_affected w ↦
+          let no = not-true (eqb (get_or rs i no_record).closed 0) (sym c.is_affected.ensures ∙ w.if-is_affected.true) in (
+            blank_more i ns rs old (leg_of D) c.loop-i.invariant.0 (leg_of c.if-is_affected.legs) c.loop-i-test.true
                 (λ z. eqb-false (get_or rs i no_record).closed 0 no (sym count ∙ z))
-                (ap leg_of w.legs-is ∙ w.fill-row.ensures.legs ∙ ap (λ (T : Table). with_row (positions_of D) ns (i + 1) T (leg_of D)) w.empty.ensures
+                (ap leg_of w.legs-is ∙ w.fill_row.ensures.legs ∙ ap (λ (T : Table). with_row (positions_of D) ns (i + 1) T (leg_of D)) w.empty.ensures
                 ∙ ap (λ (k : ℕ). with_row k ns (i + 1) none_settled (leg_of D)) (c.loop-i.invariant.1 ∙ c.requires.positions)),
-            ap positions_of w.legs-is ∙ w.fill-row.ensures.positions ∙ c.loop-i.invariant.1,
+            ap positions_of w.legs-is ∙ w.fill_row.ensures.positions ∙ c.loop-i.invariant.1,
           )
-      | else-is-affected w ↦
-          let zero = eqb-true (get_or rs i no_record).closed 0 (not-false (eqb (get_or rs i no_record).closed 0) (sym c.is-affected.ensures ∙ w.if-is-affected.false)) in (
+      | else-is_affected w ↦
+          let zero = eqb-true (get_or rs i no_record).closed 0 (not-false (eqb (get_or rs i no_record).closed 0) (sym c.is_affected.ensures ∙ w.if-is_affected.false)) in (
             subst (λ (L : LegTable). RowsBlank (i + 1) ns rs old (leg_of L)) (sym w.legs-is) (blank_sound i ns rs old (leg_of D) c.loop-i.invariant.0 (count ∙ zero)),
             ap positions_of w.legs-is ∙ c.loop-i.invariant.1,
           )

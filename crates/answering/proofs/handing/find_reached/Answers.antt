@@ -20,30 +20,30 @@ loop-filled-init g c =
 
 pub loop-filled-preserved : goal.loop-filled-preserved
 loop-filled-preserved g c = (
-  c.fill-reached.ensures.round.rows (leg_of c.args.legs.now) c.loop-filled.invariant.0,
-  c.fill-reached.ensures.positions ∙ c.loop-filled.invariant.1,
-  c.fill-reached.array_long,
+  c.fill_reached.ensures.round.rows (leg_of c.args.legs.now) c.loop-filled.invariant.0,
+  c.fill_reached.ensures.positions ∙ c.loop-filled.invariant.1,
+  c.fill_reached.array_long,
 )
 
 pub loop-filled-smaller : goal.loop-filled-smaller
-loop-filled-smaller g c = c.fill-reached.ensures.round.some c.if-not-fill-reached.false
+loop-filled-smaller g c = c.fill_reached.ensures.round.some c.if-not-fill_reached.false
 
-pub returns-then-not-fill-reached : goal.returns-then-not-fill-reached
-returns-then-not-fill-reached g c =
+pub returns-then-not-fill_reached : goal.returns-then-not-fill_reached
+returns-then-not-fill_reached g c =
     let ns = c.args.transit.now in
     let rs = c.args.trees.now in
     let K = g.K.Length.kind in
     let run = run_on K (g.M.Map.graph c.args.map.now) ns (closed_in c.args.closed.now) in
     let old = leg_of c.args.legs.now in
-    let r = c.best-ways-reached.result in
-    let round = c.fill-reached.ensures.round in
-    let ms = c.fill-reached.new.filled in
-    let same = sym (round.none c.if-not-fill-reached.true) in
+    let r = c.best_ways-reached.result in
+    let round = c.fill_reached.ensures.round in
+    let ms = c.fill_reached.new.filled in
+    let same = sym (round.none c.if-not-fill_reached.true) in
     record {
-      positions = c.fill-reached.ensures.positions ∙ c.loop-filled.invariant.1;
+      positions = c.fill_reached.ensures.positions ∙ c.loop-filled.invariant.1;
       rows = filled_fewer ns c.requires.few rs run (is_counted r rs) (is_marked ms)
-          (λ i lo hi m. round.marks i lo hi ∙ or_right (is_marked c.loop-filled.filled i) (is_counted r rs i) m) old (leg_of c.fill-reached.new.legs)
+          (λ i lo hi m. round.marks i lo hi ∙ or_right (is_marked c.loop-filled.filled i) (is_counted r rs i) m) old (leg_of c.fill_reached.new.legs)
           (round.rows old c.loop-filled.invariant.0);
-      best = λ v. subst (λ (L : LegTable). BestOpen K (grid (leg_of L)) empty_set 0 v (length_at r v)) same (c.best-ways-reached.ensures.best v);
-      reached = λ v. subst (λ (L : LegTable). Tells (is_some (length_at r v)) (Leads (grid (leg_of L)) empty_set 0 v)) same (c.best-ways-reached.ensures.reached v);
+      best = λ v. subst (λ (L : LegTable). BestOpen K (grid (leg_of L)) empty_set 0 v (length_at r v)) same (c.best_ways-reached.ensures.best v);
+      reached = λ v. subst (λ (L : LegTable). Tells (is_some (length_at r v)) (Leads (grid (leg_of L)) empty_set 0 v)) same (c.best_ways-reached.ensures.reached v);
     }

@@ -3,8 +3,8 @@ use Rattle.block.specs.Layout.{width, cell_count, neighbour}
 use Rattle.block.specs.Laws.{neighbour_within}
 use Rattle.block.proofs.cells.beside.Goals as goal
 
-pub overflow-sub-result : goal.overflow-sub-result
-overflow-sub-result c =
+pub overflow_sub-result : goal.overflow_sub-result
+overflow_sub-result c =
     let bs = c.args.bytes.now in
     let n = neighbour_within bs c.requires.0.1 c.args.j c.requires.1.0 c.requires.1.1.0 c.args.side c.requires.1.1.1 in
     let is = ap (neighbour bs c.args.j) c.in-North.is in

@@ -7,6 +7,6 @@ pub beside-to-requires : goal.beside-to-requires
 beside-to-requires c =
     let bs = c.args.bytes.now in
     let f = passed bs c.requires.0 in
-    let t = sym c.is-filled.ensures ∙ c.if-not-is-filled.false in
+    let t = sym c.is_filled.ensures ∙ c.if-not-is_filled.false in
     let p = filled_parts bs c.args.e t in
-    (f.frame, (omega arith, (omega (arith, p.0, p.1), ap (inside bs (cell_of c.args.e)) c.nth-side.ensures ∙ leads_in bs f.sides c.args.e t)))
+    (f.frame, (omega arith, (omega (arith, p.0, p.1), ap (inside bs (cell_of c.args.e)) c.nth_side.ensures ∙ leads_in bs f.sides c.args.e t)))

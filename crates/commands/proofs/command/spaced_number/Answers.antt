@@ -16,12 +16,12 @@ opens text rest h = first_rest text 0 h.0.0 ∙ ap (λ b. b ∷ between 1 (lengt
 space_first : (text more : List ℕ) → text ≡ 32 ∷ more → SpaceFirst text
 space_first text more e = (omega (arith, ap length e), ap (λ l. get_or l 0 0) e)
 
-pub returns-in-default : goal.returns-in-default
-returns-in-default c n rest num stops e = c.in-default.ensures (space_first c.args.text.now (n ++ rest) e)
+pub returns-in_default : goal.returns-in_default
+returns-in_default c n rest num stops e = c.in_default.ensures (space_first c.args.text.now (n ++ rest) e)
 
 pub returns-in-Number-default : goal.returns-in-Number-default
 returns-in-Number-default c =
-    let f = subst (λ t. Front c.in-Some.after.now t c.next-token.result.1.now) c.in-Number-default.is-0 c.next-token.ensures in
+    let f = subst (λ t. Front c.in-Some.after.now t c.next_token.result.1.now) c.in-Number-default.is-0 c.next_token.ensures in
     record {
       valued = f.classed;
       whole = opens c.args.text.now c.in-Some.after.now c.in-Some.ensures ∙ ap (λ l. 32 ∷ l) f.parted.whole;
@@ -30,7 +30,7 @@ returns-in-Number-default c =
 
 pub returns-in-Word-default : goal.returns-in-Word-default
 returns-in-Word-default c n rest num stops e =
-    let f = subst (λ t. Front c.in-Some.after.now t c.next-token.result.1.now) c.in-Word-default.is-0 c.next-token.ensures in
+    let f = subst (λ t. Front c.in-Some.after.now t c.next_token.result.1.now) c.in-Word-default.is-0 c.next_token.ensures in
     let o = opens c.args.text.now c.in-Some.after.now c.in-Some.ensures in
     let same = sym f.parted.whole ∙ tail 32 32 _ _ (sym o ∙ e) in
     f.classed (subst IsNumeral (sym (apart _ n _ rest f.parted.spaceless (numeral_spaceless n num) f.parted.stops stops same).0) num)

@@ -2,5 +2,5 @@ use Rattle.std.proofs.Common.{true-eqb}
 use Rattle.commands.proofs.First.{no_lines}
 use Rattle.commands.proofs.lines.first_line.Goals as goal
 
-pub returns-then-is-empty : goal.returns-then-is-empty
-returns-then-is-empty c = no_lines c.args.text.now (true-eqb _ 0 c.if-is-empty.ensures)
+pub returns-then-is_empty : goal.returns-then-is_empty
+returns-then-is_empty c = no_lines c.args.text.now (true-eqb _ 0 c.if-is_empty.ensures)

@@ -8,17 +8,17 @@ head x y xs ys e = cc
 nothing : (x : List ℕ) (xs : List (List ℕ)) → [] ≡ x ∷ xs → ⊥
 nothing x xs e = let z : ◌≡◌ {A = ℕ} 0 1 = cc in omega arith
 
-pub returns-in-default : goal.returns-in-default
-returns-in-default c = (omega arith, λ k ls e. nothing _ _ (sym c.in-default.ensures ∙ e))
+pub returns-in_default : goal.returns-in_default
+returns-in_default c = (omega arith, λ k ls e. nothing _ _ (sym c.in_default.ensures ∙ e))
 
-pub returns-in-Some-kind-of : goal.returns-in-Some-kind-of
-returns-in-Some-kind-of c =
+pub returns-in-Some-kind_of : goal.returns-in-Some-kind_of
+returns-in-Some-kind_of c =
     let first = c.in-Some.ensures in
     record {
       size = omega arith;
-      lines = first.lines ∙ ap (λ l. l ∷ lines_of c.in-Some.rest.now) c.in-Some-kind-of.ensures;
+      lines = first.lines ∙ ap (λ l. l ∷ lines_of c.in-Some.rest.now) c.in-Some-kind_of.ensures;
       less = first.less;
-      whole = subst (λ l. (c.args.text.now ≡ l ++ (10 ∷ c.in-Some.rest.now)) ⊎ ((c.args.text.now ≡ l) × (c.in-Some.rest.now ≡ []))) c.in-Some-kind-of.ensures first.whole;
+      whole = subst (λ l. (c.args.text.now ≡ l ++ (10 ∷ c.in-Some.rest.now)) ⊎ ((c.args.text.now ≡ l) × (c.in-Some.rest.now ≡ []))) c.in-Some-kind_of.ensures first.whole;
     }
 
 pub returns-in-None : goal.returns-in-None

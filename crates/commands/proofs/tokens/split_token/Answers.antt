@@ -2,4 +2,4 @@ use Rattle.commands.proofs.Spaces.{fronted}
 use Rattle.commands.proofs.tokens.split_token.Goals as goal
 
 pub returns : goal.returns
-returns c = fronted c.args.text.now c.length-before-n.result c.length-before-n.ensures.count c.length-before-n.ensures.within
+returns c = fronted c.args.text.now c.length_before-n.result c.length_before-n.ensures.count c.length_before-n.ensures.within

@@ -5,8 +5,8 @@ use Rattle.marking.specs.Marking.{Raised}
 use Rattle.marking.proofs.Raising.{raised_last, raised_one, row_within, row_fresh, row_member, row_more, row_all}
 use Rattle.marking.proofs.counts.raise_all.Goals as goal
 
-pub overflow-sub-row : goal.overflow-sub-row
-overflow-sub-row c = (row_within c.args.row.now c.requires.within (omega arith) c.loop-k.k c.loop-k-test.true).0
+pub overflow_sub-row : goal.overflow_sub-row
+overflow_sub-row c = (row_within c.args.row.now c.requires.within (omega arith) c.loop-k.k c.loop-k-test.true).0
 
 pub bounds-trees-row : goal.bounds-trees-row
 bounds-trees-row c = let w = row_within c.args.row.now c.requires.within (omega arith) c.loop-k.k c.loop-k-test.true in omega (arith, w.0, w.1)

@@ -8,14 +8,14 @@ use Rattle.sheet.specs.Refusal.{wrong_link, wrong_links}
 use Rattle.sheet.proofs.checks.first_bad_link.Goals as goal
 use Rattle.sheet.proofs.checks.first_bad_link.Goals.{then-is-wrong-link-via-then-is-wrong-link, then-is-wrong-link-via-else-is-wrong-link+then-is-wrong-link-2}
 
-pub returns-then-is-wrong-link : goal.returns-then-is-wrong-link
-returns-then-is-wrong-link c =
+pub returns-then-is_wrong_link : goal.returns-then-is_wrong_link
+returns-then-is_wrong_link c =
     let bs = c.args.bytes.now in
     let r = c.loop-r.r in
     let t : wrong_links bs r ≡ true =
-    elim c.then-is-wrong-link.branch [
-      | then-is-wrong-link-via-then-is-wrong-link w ↦ or_left (wrong_link bs Leaving r) (wrong_link bs Entering r) (sym c.is-wrong-link.ensures ∙ w.if-is-wrong-link.true)
-      | then-is-wrong-link-via-else-is-wrong-link+then-is-wrong-link-2 w ↦ or_right (wrong_link bs Leaving r) (wrong_link bs Entering r) (sym w.is-wrong-link-else-is-wrong-link.ensures ∙ w.if-is-wrong-link-2.true)
+    elim c.then-is_wrong_link.branch [
+      | then-is-wrong-link-via-then-is-wrong-link w ↦ or_left (wrong_link bs Leaving r) (wrong_link bs Entering r) (sym c.is_wrong_link.ensures ∙ w.if-is_wrong_link.true)
+      | then-is-wrong-link-via-else-is-wrong-link+then-is-wrong-link-2 w ↦ or_right (wrong_link bs Leaving r) (wrong_link bs Entering r) (sym w.is_wrong_link-else-is_wrong_link.ensures ∙ w.if-is_wrong_link-2.true)
     ] in
     sym (c.loop-r.invariant ∙ lowest_in_hit (wrong_links bs) r (junction_count bs + slot_count bs) (omega arith) (omega arith) t)
 
@@ -24,7 +24,7 @@ loop-r-preserved c =
     let bs = c.args.bytes.now in
     let r = c.loop-r.r in
     let f : wrong_links bs r ≡ false =
-    or_from (wrong_link bs Leaving r) (wrong_link bs Entering r) (sym c.is-wrong-link.ensures ∙ c.if-is-wrong-link.false) (sym c.is-wrong-link-else-is-wrong-link.ensures ∙ c.if-is-wrong-link-2.false) in
+    or_from (wrong_link bs Leaving r) (wrong_link bs Entering r) (sym c.is_wrong_link.ensures ∙ c.if-is_wrong_link.false) (sym c.is_wrong_link-else-is_wrong_link.ensures ∙ c.if-is_wrong_link-2.false) in
     let s : r ≡ r + 1 - 1 = omega arith in
     c.loop-r.invariant ∙ lowest_in_past (wrong_links bs) r (junction_count bs + slot_count bs) (omega arith) (omega arith) f
     ∙ ap (λ x. lowest_in (wrong_links bs) x (junction_count bs + slot_count bs)) s

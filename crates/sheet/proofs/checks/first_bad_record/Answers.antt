@@ -5,11 +5,11 @@ use Rattle.sheet.specs.Layout.{slot_count}
 use Rattle.sheet.specs.Refusal.{wrong_record}
 use Rattle.sheet.proofs.checks.first_bad_record.Goals as goal
 
-pub returns-then-is-wrong-record : goal.returns-then-is-wrong-record
-returns-then-is-wrong-record c =
+pub returns-then-is_wrong_record : goal.returns-then-is_wrong_record
+returns-then-is_wrong_record c =
     let bs = c.args.bytes.now in
     record {
-      value = sym (c.loop-e.invariant ∙ lowest_in_hit (wrong_record bs) c.loop-e.e (slot_count bs) (omega arith) (omega arith) (sym c.is-wrong-record.ensures ∙ c.if-is-wrong-record.true));
+      value = sym (c.loop-e.invariant ∙ lowest_in_hit (wrong_record bs) c.loop-e.e (slot_count bs) (omega arith) (omega arith) (sym c.is_wrong_record.ensures ∙ c.if-is_wrong_record.true));
       within = omega arith;
     }
 
@@ -17,7 +17,7 @@ pub loop-e-preserved : goal.loop-e-preserved
 loop-e-preserved c =
     let bs = c.args.bytes.now in
     let s : c.loop-e.e ≡ c.loop-e.e + 1 - 1 = omega arith in
-    c.loop-e.invariant ∙ lowest_in_past (wrong_record bs) c.loop-e.e (slot_count bs) (omega arith) (omega arith) (sym c.is-wrong-record.ensures ∙ c.if-is-wrong-record.false) ∙ ap (λ x. lowest_in (wrong_record bs) x (slot_count bs)) s
+    c.loop-e.invariant ∙ lowest_in_past (wrong_record bs) c.loop-e.e (slot_count bs) (omega arith) (omega arith) (sym c.is_wrong_record.ensures ∙ c.if-is_wrong_record.false) ∙ ap (λ x. lowest_in (wrong_record bs) x (slot_count bs)) s
 
 pub returns : goal.returns
 returns c =

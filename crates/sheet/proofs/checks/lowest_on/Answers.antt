@@ -7,10 +7,10 @@ use Rattle.sheet.proofs.Links.{on_chain_lem, off_zero, off_other}
 use Rattle.sheet.proofs.checks.lowest_on.Goals as goal
 use Rattle.sheet.proofs.checks.lowest_on.Goals.{else-v-gt0-via-then-v-gt0+else-end-of-v, else-v-gt0-via-else-v-gt0}
 
-pub returns-then-end-of-v : goal.returns-then-end-of-v
-returns-then-end-of-v c =
+pub returns-then-end_of-v : goal.returns-then-end_of-v
+returns-then-end_of-v c =
     let g = sheet_graph c.args.bytes.now in
-    let t = on_chain_lem g c.args.chain c.args.v c.loop-k.k (c.if-v-gt0.true, sym c.end-of.ensures ∙ c.if-end-of-v.true) in
+    let t = on_chain_lem g c.args.chain c.args.v c.loop-k.k (c.if-v-gt0.true, sym c.end_of.ensures ∙ c.if-end_of-v.true) in
     sym (c.loop-k.invariant ∙ lowest_in_hit (on_chain g c.args.chain c.args.v) c.loop-k.k g.slots (omega arith) (omega arith) t)
 
 pub loop-k-preserved : goal.loop-k-preserved
@@ -18,7 +18,7 @@ loop-k-preserved c =
     let g = sheet_graph c.args.bytes.now in
     let f : on_chain g c.args.chain c.args.v c.loop-k.k ≡ false =
     elim c.else-v-gt0.branch [
-      | else-v-gt0-via-then-v-gt0+else-end-of-v w ↦ off_other g c.args.chain c.args.v c.loop-k.k (λ e. w.if-end-of-v.false (w.end-of.ensures ∙ e))
+      | else-v-gt0-via-then-v-gt0+else-end-of-v w ↦ off_other g c.args.chain c.args.v c.loop-k.k (λ e. w.if-end_of-v.false (w.end_of.ensures ∙ e))
       | else-v-gt0-via-else-v-gt0 w ↦ off_zero g c.args.chain c.args.v c.loop-k.k w.if-v-gt0.false
     ] in
     let s : c.loop-k.k ≡ c.loop-k.k + 1 - 1 = omega arith in

@@ -12,6 +12,6 @@ loop-v-preserved c =
     let v = c.loop-v.v in
     let is : v ≡ suc (v - 1) = omega arith in
     let next : v + 1 - 1 ≡ suc (v - 1) = omega arith in
-    let entry = c.closed-entry-count.ensures.value ∙ ap (λ o. bit (slot_in F o)) c.get.ensures ∙ ap (λ x. bit (slot_in F (T x))) is in
+    let entry = c.closed_entry-count.ensures.value ∙ ap (λ o. bit (slot_in F o)) c.get.ensures ∙ ap (λ x. bit (slot_in F (T x))) is in
     let more = ap (closed_held F T) next in
-    (omega (arith, entry, more, c.loop-v.invariant.0), omega (arith, c.closed-entry-count.ensures.bound, c.loop-v.invariant.1))
+    (omega (arith, entry, more, c.loop-v.invariant.0), omega (arith, c.closed_entry-count.ensures.bound, c.loop-v.invariant.1))

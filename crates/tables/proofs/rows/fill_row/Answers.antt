@@ -19,10 +19,10 @@ loop-j-preserved c =
     let D = leg_of c.args.legs.now in
     let m = c.loop-j.j in
     let before : m ≡ m + 1 - 1 = omega arith in (
-      c.set-leg.ensures.positions ∙ c.loop-j.invariant.0,
+      c.set_leg.ensures.positions ∙ c.loop-j.invariant.0,
       λ i j.
-          ap (λ L. L i j) c.set-leg.ensures.legs
-          ∙ ap (λ (v : ℕ). with_leg (are_positions (positions_of c.loop-j.legs) p (m + 1)) p (m + 1) (length_of (T v)) (leg_of c.loop-j.legs) i j) c.junction-after-v.ensures
+          ap (λ L. L i j) c.set_leg.ensures.legs
+          ∙ ap (λ (v : ℕ). with_leg (are_positions (positions_of c.loop-j.legs) p (m + 1)) p (m + 1) (length_of (T v)) (leg_of c.loop-j.legs) i j) c.junction_after-v.ensures
           ∙ ap (λ (x : ℕ). with_leg (are_positions x p (m + 1)) p (m + 1) (length_of (T (get_or ns m 0))) (leg_of c.loop-j.legs) i j) c.loop-j.invariant.0
           ∙ ap (λ (x : ℕ). with_leg (are_positions k p (m + 1)) p (m + 1) (length_of (T (get_or ns x 0))) (leg_of c.loop-j.legs) i j) before
           ∙ ap (λ (o : Option ℕ). with_leg (are_positions k p (m + 1)) p (m + 1) (length_of (T (node_at ns (m + 1)))) (λ _ _. o) i j) (c.loop-j.invariant.1 i j)

@@ -7,8 +7,8 @@ returns c =
     let within = settled_within c.args.self.now c.args.v c.requires in
     sym (table_some c.args.self.now c.args.v within.0 c.requires)
 
-pub overflow-sub-i : goal.overflow-sub-i
-overflow-sub-i c = let within = settled_within c.args.self.now c.args.v c.requires in omega arith
+pub overflow_sub-i : goal.overflow_sub-i
+overflow_sub-i c = let within = settled_within c.args.self.now c.args.v c.requires in omega arith
 
 pub bounds-self-i : goal.bounds-self-i
 bounds-self-i c = let within = settled_within c.args.self.now c.args.v c.requires in omega arith

@@ -15,8 +15,8 @@ use Rattle.trees.proofs.run.run_within.Goals as goal
 pub settle-requires : goal.settle-requires
 settle-requires g c = let n = (g.M.Map.lawful c.args.map.now).few_junctions in (c.requires.0, omega arith)
 
-pub put-leaving-requires : goal.put-leaving-requires
-put-leaving-requires g c =
+pub put_leaving-requires : goal.put_leaving-requires
+put_leaving-requires g c =
     let G = g.M.Map.graph c.args.map.now in
     let L = c.args.limits.now in
     let P = streets_within G L in
@@ -35,8 +35,8 @@ loop-best-init g c =
     let L = c.args.limits.now in
     let root = L.root in
     let P = streets_within G L in
-    let told = c.put-leaving.ensures in
-    let ts = held c.put-leaving.new.queue in
+    let told = c.put_leaving.ensures in
+    let ts = held c.put_leaving.new.queue in
     let z : c.code-zero.result ≡ K.zero = c.code-zero.ensures ∙ g.met.K.Zeroed.fixed _ in
     let e : table_of c.settle.new.self ≡ first_table K root =
     c.settle.ensures ∙ ap (λ (X : Table). settle X (Some (root, 0, c.code-zero.result))) c.empty-tree.ensures ∙ ap (λ x. settle none_settled (Some (root, 0, x))) z in
@@ -74,4 +74,4 @@ returns g c =
     let P = streets_within G L in
     let i = c.loop-best.invariant in
     underway_end K P G.junctions G.slots (within_coded G L (g.M.Map.lawful c.args.map.now)) L.root g.met.K.Length.lawful (table_of c.loop-best.tree)
-    (subst (Underway K P G.slots L.root (table_of c.loop-best.tree)) c.in-default.ensures.cases.none i.3)
+    (subst (Underway K P G.slots L.root (table_of c.loop-best.tree)) c.in_default.ensures.cases.none i.3)

@@ -20,8 +20,8 @@ settle-requires g c =
     let n = w.few_junctions in
     (p.2, omega arith)
 
-pub put-leaving-requires : goal.put-leaving-requires
-put-leaving-requires g c =
+pub put_leaving-requires : goal.put_leaving-requires
+put_leaving-requires g c =
     let G = g.M.Map.graph c.args.map.now in
     let w = g.M.Map.lawful c.args.map.now in
     let K = g.K.Length.kind in
@@ -44,8 +44,8 @@ returns-in-Some g c =
     let T = table_of c.args.tree.now in
     let cs = held c.args.queue.now in
     let q = first_street G L K G.slots L.root T c.args.best cs c.requires.underway c.in-Some.ensures in
-    let told = c.put-leaving.ensures in
-    let ts = held c.put-leaving.new.queue in
+    let told = c.put_leaving.ensures in
+    let ts = held c.put_leaving.new.queue in
     let s = subst (λ (X : Table). IsPermutation (with_streets K (leaving c.in-Some.head (unsettled_heads X P)) c.args.best.length G.slots cs) ts) c.settle.ensures told.held in
     record {
       ordered = told.ordered;
@@ -55,15 +55,15 @@ returns-in-Some g c =
       less = subst (λ X. length ts + unsettled_tails P X G.slots ≤ length cs + unsettled_tails P T G.slots) (sym c.settle.ensures) (step_less K P G.junctions G.slots (within_coded G L w) L.root T c.args.best cs c.requires.underway g.met.K.Length.lawful c.requires.best _ q.0 q.2 (table_of c.settle.new.self) ts told.held);
     }
 
-pub returns-in-default : goal.returns-in-default
-returns-in-default g c =
+pub returns-in_default : goal.returns-in_default
+returns-in_default g c =
     let G = g.M.Map.graph c.args.map.now in
     let w = g.M.Map.lawful c.args.map.now in
     let K = g.K.Length.kind in
     let L = c.args.limits.now in
     let T = table_of c.args.tree.now in
     let cs = held c.args.queue.now in
-    let q = first_settled G L K G.slots L.root T c.args.best cs c.requires.underway c.in-default.ensures in
+    let q = first_settled G L K G.slots L.root T c.args.best cs c.requires.underway c.in_default.ensures in
     record {
       ordered = c.requires.ordered;
       room = refl;

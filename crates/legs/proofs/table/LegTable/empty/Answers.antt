@@ -3,8 +3,8 @@ use Rattle.legs.specs.Tables.{leg_of}
 use Rattle.legs.proofs.Cells.{all_zero, all_false, no_leg}
 use Rattle.legs.proofs.table.LegTable.empty.Goals as goal
 
-pub invariant-of-result : goal.invariant-of-result
-invariant-of-result c = (c.requires, (all_zero 289, tt))
+pub invariant_of-result : goal.invariant_of-result
+invariant_of-result c = (c.requires, (all_zero 289, tt))
 
 pub returns : goal.returns
 unfolding leg_of

@@ -4,8 +4,8 @@ use Rattle.legs.specs.Tables.{leg_of}
 use Rattle.legs.proofs.Cells.{codes_set, cell_few, cell_filled, cell_cleared}
 use Rattle.legs.proofs.table.LegTable.set_if.Goals as goal
 
-pub invariant-of-self : goal.invariant-of-self
-invariant-of-self c =
+pub invariant_of-self : goal.invariant_of-self
+invariant_of-self c =
     let t = c.args.self.now in
     (t.few, (codes_set t.lengths c.cell-at.result c.in-Some.code (omega arith) t.coded, tt))
 

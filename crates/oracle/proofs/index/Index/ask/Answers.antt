@@ -8,7 +8,7 @@ pub returns-in-Ok : goal.returns-in-Ok
 returns-in-Ok g c =
     let x = c.args.self.now.tables in
     let m = moment_of true x in
-    let more = c.one-more-self.ensures in
+    let more = c.one_more-self.ensures in
     let old = c.requires.plan.moment in
     record {
       answer = c.in-Ok.ensures;

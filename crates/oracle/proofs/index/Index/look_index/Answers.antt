@@ -12,4 +12,4 @@ returns-then-e-eq0 g c =
 
 pub returns : goal.returns
 returns g c =
-    c.nth-position.ensures ∙ ap (λ ps. cond (leb 1 c.args.k) (slice_get ps (c.args.k - 1)) None) (c.requires.stored.index c.args.e (omega arith) (omega arith))
+    c.nth_position.ensures ∙ ap (λ ps. cond (leb 1 c.args.k) (slice_get ps (c.args.k - 1)) None) (c.requires.stored.index c.args.e (omega arith) (omega arith))

@@ -7,5 +7,5 @@ pub returns : goal.returns
 returns g c =
     let x = c.args.self.now.tables in
     let G = g.M.Map.graph c.args.self.now.map in
-    c.tree-entry.ensures
+    c.tree_entry.ensures
     ∙ tree_look_lem g.K.Length.kind G (transit_of x) (tree_in x.trees) c.args.position c.args.v (λ lo hi. c.requires.stored.trees c.args.position lo (let few = listed_few x in omega arith))

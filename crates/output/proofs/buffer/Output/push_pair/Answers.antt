@@ -6,6 +6,6 @@ use Rattle.output.proofs.buffer.Output.push_pair.Goals as goal
 pub returns : goal.returns
 returns c =
     record {
-      text = after_field (printed c.args.self.now) (printed c.push-field.new.self) _ c.args.words.now (decimal c.args.n) _ c.push-field.ensures.text c.push-line.ensures.text;
+      text = after_field (printed c.args.self.now) (printed c.push_field.new.self) _ c.args.words.now (decimal c.args.n) _ c.push_field.ensures.text c.push_line.ensures.text;
       short = omega arith;
     }
