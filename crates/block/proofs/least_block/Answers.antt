@@ -5,4 +5,4 @@ use Rattle.block.proofs.least_block.Goals as goal
 
 pub invariant_of-result : goal.invariant_of-result
 unfolding lowest_in leads_out
-invariant_of-result c = ((refl, search rules), tt)
+invariant_of-result c = record { sound = (refl, search rules) }

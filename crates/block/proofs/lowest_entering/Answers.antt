@@ -4,7 +4,7 @@ use Rattle.maps.specs.Graph.{Enters, Placed, head_of}
 use Rattle.block.specs.Layout.{cell_count, block_graph}
 use Rattle.block.specs.Laws.{block_lawful}
 use Rattle.block.proofs.lowest_entering.Goals as goal
-use Rattle.block.proofs.lowest_entering.Goals.{in-Some+else-head-v, in-default}
+use Rattle.block.proofs.lowest_entering.Goals.{in-Some+else-head-v, in_default}
 
 pub returns-then-head-v : goal.returns-then-head-v
 returns-then-head-v c =
@@ -26,6 +26,6 @@ loop-e-preserved c k lo hi l =
           let here = subst (Enters (block_graph c.args.bytes.now) c.args.v) same l in
           elim c.match-street_at.branch [
             | in-Some+else-head-v w ↦ w.if-head-v.false (ap head_of w.in-Some.ensures ∙ here.1)
-            | in-default w ↦ let none : 0 ≡ c.args.v = ap head_of w.in-default.ensures ∙ here.1 in omega (arith, here.0)
+            | in_default w ↦ let none : 0 ≡ c.args.v = ap head_of w.in_default.ensures ∙ here.1 in omega (arith, here.0)
           ]
     ]

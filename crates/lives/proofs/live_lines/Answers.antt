@@ -11,7 +11,7 @@ use Rattle.tables.specs.Fits.{PlanFits, IndexFits}
 use Rattle.lives.specs.Lines.{call_at}
 use Rattle.lives.proofs.Lines.{LivedLines, lived_none, lived_call, lived_other, lived_front, lived_from, lived_since, no_call, call_here, kept_set}
 use Rattle.lives.proofs.live_lines.Goals as goal
-use Rattle.lives.proofs.live_lines.Goals.{in-Some+in-default-call, in-default, in-Some-call+in-default-call-3, in-default-call-2}
+use Rattle.lives.proofs.live_lines.Goals.{in-Some+in_default-call, in_default, in-Some-call+in_default-call-3, in_default-call-2}
 use Rattle.lives.proofs.live_lines.Goals.{then-loop-i-2-test+else-i-answers, else-loop-i-2-test, then-loop-i-2-test+then-i-answers+in-Some+in-Build}
 use Rattle.lives.proofs.live_lines.Goals.{then-loop-i-3-test+else-i-answers-3, else-loop-i-3-test, then-loop-i-3-test+then-i-answers-3+in-Some-call+in-Replan}
 
@@ -36,7 +36,7 @@ loop-i-2-preserved g c =
     × LivedLines g.L.Line.meant g.K.Length.kind (g.M.Map.graph p.map) c.args.lines.now c.loop-i.answers out (c.loop-i-2.i + 1) (moment_of false p.tables)
     × (c.loop-i.i ≤ c.loop-i-2.i + 1) in
     elim c.match-call.branch [
-      | in-Some+in-default-call w ↦
+      | in-Some+in_default-call w ↦
           let z = ap g.M.Map.graph w.plan_call.ensures.same in
           subst (λ (p : Plan g.row.M.Denot g.row.K.Denot). P p c.match-call.answers) (sym w.plan-is)
           (subst (P w.plan_call.new.plan) (sym w.answers-is) (
@@ -45,12 +45,12 @@ loop-i-2-preserved g c =
             lived_call g.L.Line.meant g.K.Length.kind _ _ c.args.lines.now c.loop-i.answers c.loop-i-2.answers c.loop-i-2.i _ _ c.index-lines-i.result w.in-Some.call w.plan_call.result z c.loop-i-2.invariant.2 c.loop-i-2-test.true c.if-i-answers.true c.index-lines-i.is (sym w.in-Some.ensures) w.plan_call.ensures.answer w.plan_call.ensures.moment,
             omega (arith, c.loop-i-2.invariant.3),
           ))
-      | in-default w ↦
+      | in_default w ↦
           subst (λ (p : Plan g.row.M.Denot g.row.K.Denot). P p c.match-call.answers) (sym w.plan-is)
           (subst (P c.loop-i-2.plan) (sym w.answers-is) (
             c.loop-i-2.invariant.0,
             c.loop-i-2.invariant.1,
-            lived_other g.L.Line.meant g.K.Length.kind (g.M.Map.graph c.loop-i-2.plan.map) (g.M.Map.graph c.loop-i-2.plan.map) c.args.lines.now c.loop-i.answers c.loop-i-2.answers c.loop-i-2.i (moment_of false c.loop-i-2.plan.tables) c.index-lines-i.result c.loop-i-2.invariant.2 c.loop-i-2-test.true c.if-i-answers.true c.index-lines-i.is (sym c.call.ensures ∙ no_call c.call.result w.in-default.not-Some),
+            lived_other g.L.Line.meant g.K.Length.kind (g.M.Map.graph c.loop-i-2.plan.map) (g.M.Map.graph c.loop-i-2.plan.map) c.args.lines.now c.loop-i.answers c.loop-i-2.answers c.loop-i-2.i (moment_of false c.loop-i-2.plan.tables) c.index-lines-i.result c.loop-i-2.invariant.2 c.loop-i-2-test.true c.if-i-answers.true c.index-lines-i.is (sym c.call.ensures ∙ no_call c.call.result w.in_default.not-Some),
             omega (arith, c.loop-i-2.invariant.3),
           ))
     ]
@@ -88,7 +88,7 @@ loop-i-3-preserved g c =
     × (c.loop-i-2.i + 1 ≤ c.loop-i-3.i + 1)
     × ((k : ℕ) → c.loop-i-2.i + 1 ≡ k + 1 → call_at g.L.Line.meant c.args.lines.now k ≡ Some Build) in
     elim c.match-call-3.branch [
-      | in-Some-call+in-default-call-3 w ↦
+      | in-Some-call+in_default-call-3 w ↦
           let z = ap g.M.Map.graph w.index_call.ensures.same in
           subst (λ (x : Index g.row.M.Denot g.row.K.Denot). P x c.match-call-3.answers) (sym w.index-is)
           (subst (P w.index_call.new.index) (sym w.answers-is) (
@@ -98,12 +98,12 @@ loop-i-3-preserved g c =
             omega (arith, c.loop-i-3.invariant.3),
             c.loop-i-3.invariant.4,
           ))
-      | in-default-call-2 w ↦
+      | in_default-call-2 w ↦
           subst (λ (x : Index g.row.M.Denot g.row.K.Denot). P x c.match-call-3.answers) (sym w.index-is)
           (subst (P c.loop-i-3.index) (sym w.answers-is) (
             c.loop-i-3.invariant.0,
             c.loop-i-3.invariant.1,
-            lived_other g.L.Line.meant g.K.Length.kind (g.M.Map.graph c.loop-i-3.index.map) (g.M.Map.graph c.loop-i-3.index.map) c.args.lines.now before c.loop-i-3.answers c.loop-i-3.i (moment_of true c.loop-i-3.index.tables) c.index-lines-i-in-loop-i-3.result c.loop-i-3.invariant.2 c.loop-i-3-test.true c.if-i-answers-3.true c.index-lines-i-in-loop-i-3.is (sym c.call-in-loop-i-3.ensures ∙ no_call c.call-in-loop-i-3.result w.in-default-call-2.not-Some),
+            lived_other g.L.Line.meant g.K.Length.kind (g.M.Map.graph c.loop-i-3.index.map) (g.M.Map.graph c.loop-i-3.index.map) c.args.lines.now before c.loop-i-3.answers c.loop-i-3.i (moment_of true c.loop-i-3.index.tables) c.index-lines-i-in-loop-i-3.result c.loop-i-3.invariant.2 c.loop-i-3-test.true c.if-i-answers-3.true c.index-lines-i-in-loop-i-3.is (sym c.call-in-loop-i-3.ensures ∙ no_call c.call-in-loop-i-3.result w.in_default-call-2.not-Some),
             omega (arith, c.loop-i-3.invariant.3),
             c.loop-i-3.invariant.4,
           ))

@@ -5,4 +5,4 @@ use Rattle.sheet.proofs.least_sheet.Goals as goal
 
 pub invariant_of-result : goal.invariant_of-result
 unfolding lowest_in wrong_record wrong_link
-invariant_of-result c = ((refl, search rules), tt)
+invariant_of-result c = record { sound = (refl, search rules) }

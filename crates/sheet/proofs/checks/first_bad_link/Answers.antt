@@ -6,7 +6,7 @@ use Rattle.sheet.specs.declared.records.Chain.TheVariants.{Leaving, Entering}
 use Rattle.sheet.specs.Layout.{junction_count, slot_count}
 use Rattle.sheet.specs.Refusal.{wrong_link, wrong_links}
 use Rattle.sheet.proofs.checks.first_bad_link.Goals as goal
-use Rattle.sheet.proofs.checks.first_bad_link.Goals.{then-is-wrong-link-via-then-is-wrong-link, then-is-wrong-link-via-else-is-wrong-link+then-is-wrong-link-2}
+use Rattle.sheet.proofs.checks.first_bad_link.Goals.{then-is_wrong_link-via-then-is_wrong_link, then-is_wrong_link-via-else-is_wrong_link+then-is_wrong_link-2}
 
 pub returns-then-is_wrong_link : goal.returns-then-is_wrong_link
 returns-then-is_wrong_link c =
@@ -14,8 +14,8 @@ returns-then-is_wrong_link c =
     let r = c.loop-r.r in
     let t : wrong_links bs r ≡ true =
     elim c.then-is_wrong_link.branch [
-      | then-is-wrong-link-via-then-is-wrong-link w ↦ or_left (wrong_link bs Leaving r) (wrong_link bs Entering r) (sym c.is_wrong_link.ensures ∙ w.if-is_wrong_link.true)
-      | then-is-wrong-link-via-else-is-wrong-link+then-is-wrong-link-2 w ↦ or_right (wrong_link bs Leaving r) (wrong_link bs Entering r) (sym w.is_wrong_link-else-is_wrong_link.ensures ∙ w.if-is_wrong_link-2.true)
+      | then-is_wrong_link-via-then-is_wrong_link w ↦ or_left (wrong_link bs Leaving r) (wrong_link bs Entering r) (sym c.is_wrong_link.ensures ∙ w.if-is_wrong_link.true)
+      | then-is_wrong_link-via-else-is_wrong_link+then-is_wrong_link-2 w ↦ or_right (wrong_link bs Leaving r) (wrong_link bs Entering r) (sym w.is_wrong_link-else-is_wrong_link.ensures ∙ w.if-is_wrong_link-2.true)
     ] in
     sym (c.loop-r.invariant ∙ lowest_in_hit (wrong_links bs) r (junction_count bs + slot_count bs) (omega arith) (omega arith) t)
 

@@ -5,7 +5,7 @@ use Rattle.sheet.specs.Layout.{slot_count, sheet_graph}
 use Rattle.sheet.specs.Chains.{on_chain, lowest_on}
 use Rattle.sheet.proofs.Links.{on_chain_lem, off_zero, off_other}
 use Rattle.sheet.proofs.checks.lowest_on.Goals as goal
-use Rattle.sheet.proofs.checks.lowest_on.Goals.{else-v-gt0-via-then-v-gt0+else-end-of-v, else-v-gt0-via-else-v-gt0}
+use Rattle.sheet.proofs.checks.lowest_on.Goals.{else-v-gt0-via-then-v-gt0+else-end_of-v, else-v-gt0-via-else-v-gt0}
 
 pub returns-then-end_of-v : goal.returns-then-end_of-v
 returns-then-end_of-v c =
@@ -18,7 +18,7 @@ loop-k-preserved c =
     let g = sheet_graph c.args.bytes.now in
     let f : on_chain g c.args.chain c.args.v c.loop-k.k ≡ false =
     elim c.else-v-gt0.branch [
-      | else-v-gt0-via-then-v-gt0+else-end-of-v w ↦ off_other g c.args.chain c.args.v c.loop-k.k (λ e. w.if-end_of-v.false (w.end_of.ensures ∙ e))
+      | else-v-gt0-via-then-v-gt0+else-end_of-v w ↦ off_other g c.args.chain c.args.v c.loop-k.k (λ e. w.if-end_of-v.false (w.end_of.ensures ∙ e))
       | else-v-gt0-via-else-v-gt0 w ↦ off_zero g c.args.chain c.args.v c.loop-k.k w.if-v-gt0.false
     ] in
     let s : c.loop-k.k ≡ c.loop-k.k + 1 - 1 = omega arith in

@@ -4,7 +4,7 @@ use Rattle.legs.proofs.Cells.{all_zero, all_false, no_leg}
 use Rattle.legs.proofs.table.LegTable.empty.Goals as goal
 
 pub invariant_of-result : goal.invariant_of-result
-invariant_of-result c = (c.requires, (all_zero 289, tt))
+invariant_of-result c = record { few = c.requires; coded = all_zero 289 }
 
 pub returns : goal.returns
 unfolding leg_of

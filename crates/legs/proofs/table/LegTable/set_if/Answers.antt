@@ -7,7 +7,7 @@ use Rattle.legs.proofs.table.LegTable.set_if.Goals as goal
 pub invariant_of-self : goal.invariant_of-self
 invariant_of-self c =
     let t = c.args.self.now in
-    (t.few, (codes_set t.lengths c.cell-at.result c.in-Some.code (omega arith) t.coded, tt))
+    record { few = t.few; coded = codes_set t.lengths c.cell-at.result c.in-Some.code (omega arith) t.coded }
 
 pub returns-in-Some : goal.returns-in-Some
 unfolding leg_of
