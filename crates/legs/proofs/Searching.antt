@@ -45,7 +45,7 @@ target_few k v few (inr h) = omega arith
 
 -- what a table shows after a node is settled
 shows_set : (T : Table) (L : Lengths) (v e l : ℕ) → ((u : ℕ) → length_of (T u) ≡ L u) → (u : ℕ) → length_of (settle T (Some (v, e, l)) u) ≡ update eqb L v (Some l) u
-shows_set T L v e l h u = go (eqb u v)
+shows_set T L v e l h u = go (eqb v u)
   where
     go : (b : Bool) → length_of (cond b (Some (e, l)) (T u)) ≡ cond b (Some l) (L u)
     go true = refl

@@ -98,8 +98,8 @@ module _ (K : Kind) (g : Streets) (T U : Table) (v : ℕ) (b : Entry) (un : T v 
       off : (x : Bool) (a : Street) → (a.0 ≡ v → ⊥)
           → length (with_streets K (leaving v (unsettled_heads U g)) l k cs) + unsettled_tails g (settle T (Some (v, b.0, b.1))) k ≤ length cs + unsettled_tails g T k
           → length (with_street K l (suc k) (if_leaves v (omit_if x (Some a))) (with_streets K (leaving v (unsettled_heads U g)) l k cs)) + (unsettled_tail (settle T (Some (v, b.0, b.1))) (Some a) + unsettled_tails g (settle T (Some (v, b.0, b.1))) k) ≤ length cs + (unsettled_tail T (Some a) + unsettled_tails g T k)
-      off true a p i = rw (ne_eqb a.0 v p) (omega arith)
-      off false a p i = rw (ne_eqb a.0 v p) (omega arith)
+      off true a p i = rw (ne_eqb v a.0 (λ q. p (sym q))) (omega arith)
+      off false a p i = rw (ne_eqb a.0 v p, ne_eqb v a.0 (λ q. p (sym q))) (omega arith)
 
       go : (o : Option Street)
           → length (with_streets K (leaving v (unsettled_heads U g)) l k cs) + unsettled_tails g (settle T (Some (v, b.0, b.1))) k ≤ length cs + unsettled_tails g T k

@@ -20,7 +20,7 @@ loop-i-preserved g c =
     let F = closed_in c.args.closed.now in
     let m = c.loop-i.i in
     let before : m ≡ m + 1 - 1 = omega arith in
-    let on : OnMap G (get_or ns m 0) = All-get_or (OnMap G) ns m 0 c.loop-i-test.true c.requires.all_on_map in
+    let on : OnMap G (get_or ns m 0) = All-get_or (OnMap G) ns m 0 c.loop-i-test.true c.requires.on_map in
     let is : table_of c.tree_record.result.tree ≡ tree_at K G ns (m + 1) = c.tree_record.ensures.tree on ∙ ap (λ (x : ℕ). tree K G ns (get_or ns x 0)) before in
     let held : c.tree_record.result.closed ≡ closed_held F (tree_at K G ns (m + 1)) G.junctions =
     c.tree_record.ensures.count ∙ ap (λ (T : Table). closed_held F T G.junctions) is in

@@ -12,4 +12,4 @@ returns g c =
     let none = c.no_marks.ensures in
     let all = ap (λ (F : ℕ → Bool). run_on K G ns F c.args.root) none in
     let from = ap (λ (F : ℕ → Bool). bounded_run K G ns F c.args.root) none in
-    record { run = (cc); all_on_map = λ on. let it = told.all_on_map on in (cc) }
+    record { run = (cc); on_map = λ on. let it = told.on_map on in (cc) }
