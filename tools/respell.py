@@ -91,6 +91,9 @@ def main(root):
         else:
             if path.endswith(".rt"):
                 here = {a: b for a, b in here.items() if a in TYPES or turns(a)}
+            for items in re.findall(r"\buse Rattle\.std\.[^\n{;]*\{([^}]*)\}", text):
+                for name in re.findall(TOKEN, items):
+                    here.pop(name, None)
             if ANSWERS.search(path):
                 for name in GOAL.findall(text):
                     here.pop(name, None)

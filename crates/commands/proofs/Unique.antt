@@ -1,5 +1,5 @@
 -- A line spells one call, with one list of numbers; so each answer is given on its condition.
-use Rattle.std.proofs.Common.{◌≡◌, ℕ, ◌+◌, ◌<◌, ◌≤◌, cond, eqb, ◌⊎◌, List, [], ◌∷◌, ◌++◌, map, length, get_or, Ok, Err, Result, sym, refl, ap, ◌∙◌, subst, inl, inr, arith, length_append}
+use Rattle.std.proofs.Common.{◌≡◌, ℕ, ◌+◌, ◌<◌, ◌≤◌, cond, eqb, ◌⊎◌, List, [], ◌∷◌, ◌++◌, map, length, get_or, Ok, Err, Result, sym, refl, ap, ◌∙◌, subst, inl, inr, arith, length-append}
 use Rattle.calls.specs.declared.Call.{Call}
 use Rattle.calls.specs.declared.Call.TheVariants.{Name, Build, Close, Reopen, Ask, Tally, Replan}
 use Rattle.commands.specs.Numbers.{value_of}
@@ -60,8 +60,8 @@ exact line (Err NoForm) h = record {
 
 first_within : (ns : List (List ℕ)) (d : List ℕ) → FirstLarge ns d → length d ≤ length (spaced ns)
 first_within [] d h = absurd h
-first_within (n ∷ ns) d (inl h) = omega (arith, ap length h.1, length_append n (spaced ns))
-first_within (n ∷ ns) d (inr h) = omega (arith, first_within ns d h.1, length_append n (spaced ns))
+first_within (n ∷ ns) d (inl h) = omega (arith, ap length h.1, length-append n (spaced ns))
+first_within (n ∷ ns) d (inr h) = omega (arith, first_within ns d h.1, length-append n (spaced ns))
 
 pub within : (line : List ℕ) (r : Result Call LineFault) → Outcome line r → Within line r
 within line (Ok c) h = tt

@@ -1,4 +1,4 @@
-use Rattle.std.proofs.Common.{◌≡◌, ℕ, ◌+◌, ◌/◌, ◌%◌, List, [], ◌∷◌, ◌++◌, length, decimal, sym, refl, ap, ◌∙◌, subst, append-nil, arith, length_append, rules}
+use Rattle.std.proofs.Common.{◌≡◌, ℕ, ◌+◌, ◌/◌, ◌%◌, List, [], ◌∷◌, ◌++◌, length, decimal, sym, refl, ap, ◌∙◌, subst, append-nil, arith, length-append, rules}
 use Rattle.std.proofs.lemmas.Fmt.{decimal_step}
 use Rattle.output.specs.Printed.{printed}
 use Rattle.output.proofs.Lines.{length_step, one_digit, joined}
@@ -12,7 +12,7 @@ push-number-requires t c =
 pub push-bytes-requires : goal.push-bytes-requires
 push-bytes-requires t c =
     elim c.if-n-ge10.branch [
-      | then-n-ge10 w ↦ omega (arith, ap (λ o. length (printed o)) w.self-is, ap length w.push-number.ensures, length_append (printed c.args.self.now) (decimal (c.args.n / 10)), length_step c.args.n w.if-n-ge10.true c.ranges.n.fits)
+      | then-n-ge10 w ↦ omega (arith, ap (λ o. length (printed o)) w.self-is, ap length w.push-number.ensures, length-append (printed c.args.self.now) (decimal (c.args.n / 10)), length_step c.args.n w.if-n-ge10.true c.ranges.n.fits)
       | else-n-ge10 w ↦ omega (arith, ap (λ o. length (printed o)) w.self-is, ap length (one_digit c.args.n w.if-n-ge10.false))
     ]
 
