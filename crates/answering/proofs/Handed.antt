@@ -16,7 +16,7 @@ use Rattle.asks.specs.Reached.{passing, is_redone}
 use Rattle.asks.specs.Claims.{AgreesWhereReached}
 use Rattle.asks.specs.Redone.{Redone}
 use Rattle.asks.proofs.Handing.{node_on_map, position_true}
-use Rattle.asks.proofs.Redoing.{partial_handed_answer, redone_by_legs}
+use Rattle.asks.proofs.Redoing.{partial_handed_answer, redone_by_search}
 use Rattle.legs.specs.declared.Reached.{Reached}
 use Rattle.legs.specs.declared.table.LegTable.{LegTable}
 use Rattle.legs.specs.Tables.{leg_of, with_leg, are_positions, length_at, position_at}
@@ -197,4 +197,4 @@ module _ (K : Kind) (G : Graph) (ns : List ℕ) (on : All (OnMap G) ns) (few : l
     pub found_redone : Redone K G ns F s (passing (is_counted r rs) (length ns))
     found_redone =
         subst (Redone K G ns F s) (passing_same (is_redone K G ns F (length_at r)) (is_counted r rs) (length ns) counted_as)
-        (redone_by_legs K law G coded ns on few F none s t D same (length_at r) (λ i _ _. best i))
+        (redone_by_search K law G coded ns on few F none s t D same (length_at r) (λ i _ _. best i))

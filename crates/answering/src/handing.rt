@@ -12,7 +12,7 @@ ghost use Rattle.trees.specs.Trees.{table_of};
 ghost use Rattle.tables.specs.Rows.{with_row};
 ghost use Rattle.answering.specs.Handing.{RowsBlank, EndsHanded, RowsFilled, Round, is_counted};
 
-use legs::{LegTable, Reached, best_ways};
+use legs::{LegTable, Reached, search};
 use lengths::Zeroed;
 use maps::Map;
 use tables::{TreeRecord, fill_row, length_in};
@@ -126,7 +126,7 @@ fn fill_reached<M: Map, K: Zeroed>(
 }
 
 // Finds the best ways over the legs, and as long as rows of affected trees are newly reached, fills them in and finds them again.
-pub(crate) fn find_reached<M: Map, K: Zeroed>(
+pub(crate) fn search_reached<M: Map, K: Zeroed>(
     map: &M,
     transit: &[u16],
     closed: &[bool; 512],
@@ -142,7 +142,7 @@ pub(crate) fn find_reached<M: Map, K: Zeroed>(
 {
     let mut filled = [false; 16];
     loop {
-        let reached = best_ways::<K>(legs);
+        let reached = search::<K>(legs);
         if !fill_reached::<M, K>(map, transit, closed, trees, &reached, &mut filled, legs) {
             return reached;
         }

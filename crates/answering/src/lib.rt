@@ -14,7 +14,7 @@ ghost use Rattle.tables.specs.Fits.{IndexFits};
 ghost use Rattle.answering.specs.Handing.{is_counted};
 
 use calls::{Fault, Reply};
-use handing::{blank_rows, find_reached, hand_ends, is_redone};
+use handing::{blank_rows, search_reached, hand_ends, is_redone};
 use legs::Reached;
 use lengths::Zeroed;
 use maps::{Map, TwoWay};
@@ -50,7 +50,7 @@ fn work_out<M: TwoWay, K: Zeroed>(map: &M, tables: &Tables, s: u16, t: u16) -> R
     let mut legs = tables.legs;
     blank_rows(transit, &tables.trees, &mut legs);
     hand_ends(&mut legs, &from, &back, transit, t);
-    let reached = find_reached::<M, K>(map, transit, &tables.closed, &tables.trees, &mut legs);
+    let reached = search_reached::<M, K>(map, transit, &tables.closed, &tables.trees, &mut legs);
     Reply {
         length: reached.goal(),
         redone: count_redone(&reached, &tables.trees, tables.named),

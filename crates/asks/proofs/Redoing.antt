@@ -11,7 +11,7 @@ use Rattle.asks.specs.Held.{is_affected}
 use Rattle.asks.specs.Index.{node_at, tree_at}
 use Rattle.asks.specs.Handed.{handed_legs}
 use Rattle.asks.specs.Reached.{passing, is_redone}
-use Rattle.asks.specs.Claims.{PartialHandedAnswer, PartialHandedReach, RedoneByLengths, RedoneByLegs}
+use Rattle.asks.specs.Claims.{PartialHandedAnswer, PartialHandedReach, RedoneByLengths, RedoneBySearch}
 use Rattle.asks.proofs.Counting.{tells_both, counted_at}
 use Rattle.asks.proofs.Numbers.{affected_by_number}
 use Rattle.asks.proofs.Handing.{node_on_map, position_junction, handed_answer, handed_reach}
@@ -46,8 +46,8 @@ redone_by_lengths K law G map ns on F z s A best =
     (answer_leads K G.street F s (node_at ns i) (A i) (best i lo hi))
     (affected_by_number K law G map ns (node_at ns i) (node_on_map G ns on i lo hi) F z).test)
 
-pub redone_by_legs : RedoneByLegs
-redone_by_legs K law G map ns on few F z s t D agrees A best =
+pub redone_by_search : RedoneBySearch
+redone_by_search K law G map ns on few F z s t D agrees A best =
     redone_by_lengths K law G map ns on F z s A (λ i lo hi.
     let n : junction_of ns s t i ≡ node_at ns i = position_junction ns s t i lo (omega arith) in
     let h = partial_handed_answer K law G map ns on few F s t D agrees i (inl (lo, hi)) (A i) (best i lo hi) in

@@ -149,9 +149,9 @@ RedoneByLengths = (K : Kind) → LawfulKind K → (G : Graph) → Coded G → (n
     → ((i : ℕ) → 0 < i → i ≤ length ns → BestOpen K G.street F s (node_at ns i) (A i))
     → Redone K G ns F s (passing (is_redone K G ns F A) (length ns))
 
--- so right lengths over the legs handed on, or over their reached rows, tell it
-abbrev pub RedoneByLegs : Type 0
-RedoneByLegs = (K : Kind) → LawfulKind K → (G : Graph) → Coded G → (ns : List ℕ) → All (OnMap G) ns → length ns ≤ 16 → (F : ℕ → Bool) → F 0 ≡ false → (s t : ℕ) (D : Legs)
+-- so a right search tells it, over the legs handed on or over their reached rows
+abbrev pub RedoneBySearch : Type 0
+RedoneBySearch = (K : Kind) → LawfulKind K → (G : Graph) → Coded G → (ns : List ℕ) → All (OnMap G) ns → length ns ≤ 16 → (F : ℕ → Bool) → F 0 ≡ false → (s t : ℕ) (D : Legs)
     → AgreesWhereReached D (handed_legs K G ns F s t) → (A : ℕ → Option ℕ)
     → ((i : ℕ) → 0 < i → i ≤ length ns → BestOpen K (grid D) empty_set 0 i (A i))
     → Redone K G ns F s (passing (is_redone K G ns F A) (length ns))

@@ -5,3 +5,4 @@ pub mod Handed
 pub mod Reached
 pub mod Bounded
 pub mod Claims
+pub mod Examples

@@ -1,12 +1,13 @@
-// What an ask works out: the streets that trees hold, the inverted index, the legs handed on, and the redone count.
+// What an ask works out: the streets that trees hold, the inverted index, the legs handed to the search, and the redone count.
 //
 // Each function here states theorems in its contract, answers 0 and does nothing else. They hold for every lawful
 // kind of length and every map whose street lengths are codes, as those of every lawful map are.
-// Nothing is built, asked or run here: the crates that do it say what they leave in these definitions.
+// Nothing is built, asked or searched here: the crates that do it say what they leave in these definitions.
 ghost use Rattle.std.specs.Prelude.{◌≡◌};
 ghost use Rattle.asks.specs.Claims.{TreesInWords, StoredInWords, NumberCounts, AffectedByNumber, NumberFollowsMarks, IndexInverts, NumbersFollowIndex};
 ghost use Rattle.asks.specs.Claims.{HandedAreLegs, HandedAnswer, HandedReach, PartialLegsAnswer, PartialHandedAnswer, PartialHandedReach, LastRound, RoundsGrow};
-ghost use Rattle.asks.specs.Claims.{RedoneOnce, RedoneByLengths, RedoneByLegs};
+ghost use Rattle.asks.specs.Claims.{RedoneOnce, RedoneByLengths, RedoneBySearch};
+ghost use Rattle.asks.specs.Examples.{Solved};
 
 // Trees and stored legs are best walks past no other transit node.
 pub fn trees_in_words_stand() -> u8
@@ -58,11 +59,19 @@ pub fn partial_legs_stand() -> u8
     0
 }
 
-// One redone count is right, and right lengths over the legs handed on tell it.
+// One redone count is right, and a right search over the legs handed on tells it.
 pub fn redone_stands() -> u8
     ensures once { RedoneOnce }
     ensures lengths { RedoneByLengths }
-    ensures legs { RedoneByLegs }
+    ensures search { RedoneBySearch }
+    ensures zero { result ≡ 0 }
+{
+    0
+}
+
+// The definitions give the solved examples.
+pub fn examples_stand() -> u8
+    ensures solved { Solved }
     ensures zero { result ≡ 0 }
 {
     0

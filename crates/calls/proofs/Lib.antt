@@ -5,3 +5,4 @@ pub mod Once
 pub mod Existing
 pub mod Asking
 pub mod Twice
+pub mod Examples

@@ -5,3 +5,4 @@ pub mod Lives
 pub mod Fitting
 pub mod Promise
 pub mod Claims
+pub mod Examples

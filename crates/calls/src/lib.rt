@@ -7,6 +7,9 @@ ghost use Rattle.std.specs.Prelude.{◌≡◌};
 ghost use Rattle.calls.specs.Faults.{number_of};
 ghost use Rattle.calls.specs.Claims.{LivesFit, RefusalsKeep, ClosuresFollow, LivesExist, LivesOnce};
 ghost use Rattle.calls.specs.Claims.{AsksInLives, TwoLives, PromiseKept};
+ghost use Rattle.calls.specs.Examples.{Solved};
+
+use lengths::kinds_are_lawful;
 
 // Why a call is refused.
 #[derive(Clone, Copy, PartialEq, Eq, Debug)]
@@ -95,5 +98,14 @@ pub fn promise_stands() -> u8
     ensures whole { PromiseKept }
     ensures zero { result ≡ 0 }
 {
+    0
+}
+
+// The definitions give the solved examples.
+pub fn examples_stand() -> u8
+    ensures solved { Solved }
+    ensures zero { result ≡ 0 }
+{
+    kinds_are_lawful();
     0
 }

@@ -1,5 +1,5 @@
 // The tests, and the solver that they compare with.
-use legs::{LegTable, best_ways};
+use legs::{LegTable, search};
 use lengths::{Gates, Length, Paces, Zeroed, zero_of};
 use std::process::Abort;
 
@@ -59,7 +59,7 @@ const TOP: u64 = u64::MAX;
 
 // Both say the same of the goal and of every position, and nothing of other numbers.
 fn agree<K: Zeroed>(rt: &impl Abort, count: u16, legs: &[Leg]) {
-    let found = best_ways::<K>(&table_of(count, legs));
+    let found = search::<K>(&table_of(count, legs));
     let best = relaxed::<K>(legs);
     assert_eq!(rt; found.goal(), best[31]);
     for i in 1..17u16 {
@@ -72,8 +72,8 @@ fn agree<K: Zeroed>(rt: &impl Abort, count: u16, legs: &[Leg]) {
 
 fn goals(rt: &impl Abort, count: u16, legs: &[Leg], paces: Option<u64>, gates: Option<u64>) {
     let table = table_of(count, legs);
-    assert_eq!(rt; best_ways::<Paces>(&table).goal(), paces);
-    assert_eq!(rt; best_ways::<Gates>(&table).goal(), gates);
+    assert_eq!(rt; search::<Paces>(&table).goal(), paces);
+    assert_eq!(rt; search::<Gates>(&table).goal(), gates);
     agree::<Paces>(rt, count, legs);
     agree::<Gates>(rt, count, legs);
 }
@@ -160,7 +160,7 @@ fn through_all_positions(rt: HostRuntime) {
     goals(&rt, 16, &chain(), Some(340), Some(400));
     // with fewer positions the chain breaks
     assert_eq!(rt;
-        best_ways::<Paces>(&table_of(15, &chain())).goal(),
+        search::<Paces>(&table_of(15, &chain())).goal(),
         Some(400)
     );
 }
@@ -210,11 +210,11 @@ fn set_and_taken_back(rt: HostRuntime) {
         table.set_between(i, 1, Some(0));
     }
     table.set_between(1, 1, Some(0));
-    assert_eq!(rt; best_ways::<Paces>(&table).goal(), Some(3));
+    assert_eq!(rt; search::<Paces>(&table).goal(), Some(3));
     assert_eq!(rt; table.leg(0, 31), Some(5));
     assert_eq!(rt; table.leg(1, 1), None);
     table.set_access(1, None);
-    assert_eq!(rt; best_ways::<Paces>(&table).goal(), Some(5));
+    assert_eq!(rt; search::<Paces>(&table).goal(), Some(5));
     table.set_direct(None);
-    assert_eq!(rt; best_ways::<Paces>(&table).goal(), None);
+    assert_eq!(rt; search::<Paces>(&table).goal(), None);
 }

@@ -1,10 +1,10 @@
 // Legs between transit nodes, and the best ways over them.
 //
 // A `LegTable` holds the lengths from the start to each of at most 16 list positions, between positions, from each position to
-// the goal, and from the start straight to the goal, each present or absent. `best_ways` finds the best of all ways over them.
+// the goal, and from the start straight to the goal, each present or absent. `search` finds the best of all ways over them.
 //
 // Promised, for every table and every lawful kind of length: each call takes any numbers, and one that names no leg changes
-// nothing; `best_ways` leaves each node with the best length of all ways over the legs from the start, or none exactly if no way
+// nothing; `search` leaves each node with the best length of all ways over the legs from the start, or none exactly if no way
 // leads there. Every put into its queue finds a place. Nothing is allocated.
 // Not promised: over which legs a best way goes. Whether the legs are those of a map is not known here.
 ghost use Rattle.std.specs.Prelude.{◌≡◌, ℕ, ◌+◌, ◌<◌, ◌≤◌, ◌∷◌, length, is_some, Some, None, nat_eq};
@@ -196,7 +196,7 @@ fn visit<K: Length>(
 }
 
 /// The best of all ways over the legs from the start, to every node.
-pub fn best_ways<K: Zeroed>(legs: &LegTable) -> Reached
+pub fn search<K: Zeroed>(legs: &LegTable) -> Reached
     ensures best { (v : ℕ) → BestOpen K.Length.kind (grid (leg_of legs.now)) empty_set 0 v (length_at result v) }
     ensures reached { (v : ℕ) → Tells (is_some (length_at result v)) (Leads (grid (leg_of legs.now)) empty_set 0 v) }
 {

@@ -1,7 +1,10 @@
 // The example map files that documents, tests and the table of solved examples share.
 //
-// Each function answers the bytes of one file, as specs/Files has them. What the files mean is not said here: the crate `solved` does.
+// Each function answers the bytes of one file, as specs/Files has them. `examples_stand` answers 0, and its contract is the table of
+// examples of the two formats: each is an equation of the definitions that the formats' contracts cite. What a question on the files
+// answers is not said here: the crate `solved` does.
 ghost use Rattle.std.specs.Prelude.{◌≡◌};
+ghost use Rattle.samples.specs.Examples.{SheetExamples, BlockExamples};
 ghost use Rattle.samples.specs.Files.{four_junctions, two_ways, two_cells};
 
 /// The sheet with four junctions and five streets.
@@ -23,4 +26,11 @@ pub fn two_cells() -> [u8; 5]
     ensures { result ≡ two_cells }
 {
     *b"\x47\x02\x01\x02\x30"
+}
+
+// The examples stand.
+pub fn examples_stand() -> u8
+    ensures { SheetExamples × BlockExamples × (result ≡ 0) }
+{
+    0
 }

@@ -17,3 +17,4 @@ pub mod Grids
 pub mod Splits
 pub mod Legs
 pub mod Rule
+mod Examples

@@ -5,3 +5,4 @@ pub mod Rule
 pub mod Trees
 pub mod Legs
 pub mod Claims
+pub mod Examples

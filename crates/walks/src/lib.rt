@@ -2,11 +2,12 @@
 //
 // Each function here states theorems in its contract, answers 0 and does nothing else. The theorems hold for every
 // lawful kind of length and every map whose street lengths are codes, as those of every lawful map are.
-// No run is done here: the crates that do them say what they leave in these definitions.
+// No run or search is done here: the crates that do them say what they leave in these definitions.
 ghost use Rattle.std.specs.Prelude.{◌≡◌};
 ghost use Rattle.walks.specs.Claims.{LawfulIsCoded, RunSound, RunComplete, RunIsTree, ReversedSound, ReversedComplete, RunFollowsRule, RuleHasOneRun};
 ghost use Rattle.walks.specs.Claims.{HeldAtHead, UnaffectedKeeps, AffectedByTest, OneAnswer, RunAnswers};
 ghost use Rattle.walks.specs.Claims.{WalksSplit, LegsCompose, LegsAnswer, AnswerByLegs, ReachedByLegs};
+ghost use Rattle.walks.specs.Examples.{Solved};
 
 // The bounded run gives best walks past no transit node but its root, along the streets and against them, and is the run of the rule.
 pub fn runs_stand() -> u8
@@ -49,6 +50,14 @@ pub fn legs_stand() -> u8
     ensures answer { LegsAnswer }
     ensures back { AnswerByLegs }
     ensures reached { ReachedByLegs }
+    ensures zero { result ≡ 0 }
+{
+    0
+}
+
+// The definitions give the solved examples.
+pub fn examples_stand() -> u8
+    ensures solved { Solved }
     ensures zero { result ≡ 0 }
 {
     0

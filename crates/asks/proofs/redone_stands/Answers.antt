@@ -5,4 +5,4 @@ use Rattle.asks.proofs.Counting as counting
 use Rattle.asks.proofs.Redoing as redoing
 
 pub returns : goal.returns
-returns c = record { once = counting.redone_once; lengths = redoing.redone_by_lengths; legs = redoing.redone_by_legs; zero = refl }
+returns c = record { once = counting.redone_once; lengths = redoing.redone_by_lengths; search = redoing.redone_by_search; zero = refl }

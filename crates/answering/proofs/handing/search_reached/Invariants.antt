@@ -3,7 +3,7 @@ use Rattle.legs.specs.Tables.{positions_of, leg_of}
 use Rattle.trees.specs.Marks.{closed_in}
 use Rattle.trees.specs.Runs.{run_on}
 use Rattle.answering.specs.Handing.{RowsFilled, is_marked, unmarked}
-use Rattle.answering.proofs.handing.find_reached.Given as goal
+use Rattle.answering.proofs.handing.search_reached.Given as goal
 
 abbrev pub invariant-loop-filled : goal.invariant-loop-filled
 invariant-loop-filled g l =

@@ -10,7 +10,7 @@ use Rattle.trees.specs.Marks.{closed_in}
 use Rattle.trees.specs.Runs.{run_on}
 use Rattle.answering.specs.Handing.{is_counted, is_marked}
 use Rattle.answering.proofs.Rounds.{filled_none, filled_fewer}
-use Rattle.answering.proofs.handing.find_reached.Goals as goal
+use Rattle.answering.proofs.handing.search_reached.Goals as goal
 
 pub loop-filled-init : goal.loop-filled-init
 loop-filled-init g c =
@@ -35,7 +35,7 @@ returns-then-not-fill_reached g c =
     let K = g.K.Length.kind in
     let run = run_on K (g.M.Map.graph c.args.map.now) ns (closed_in c.args.closed.now) in
     let old = leg_of c.args.legs.now in
-    let r = c.best_ways-reached.result in
+    let r = c.search-reached.result in
     let round = c.fill_reached.ensures.round in
     let ms = c.fill_reached.new.filled in
     let same = sym (round.none c.if-not-fill_reached.true) in
@@ -44,6 +44,6 @@ returns-then-not-fill_reached g c =
       rows = filled_fewer ns c.requires.few rs run (is_counted r rs) (is_marked ms)
           (λ i lo hi m. round.marks i lo hi ∙ or_right (is_marked c.loop-filled.filled i) (is_counted r rs i) m) old (leg_of c.fill_reached.new.legs)
           (round.rows old c.loop-filled.invariant.0);
-      best = λ v. subst (λ (L : LegTable). BestOpen K (grid (leg_of L)) empty_set 0 v (length_at r v)) same (c.best_ways-reached.ensures.best v);
-      reached = λ v. subst (λ (L : LegTable). Tells (is_some (length_at r v)) (Leads (grid (leg_of L)) empty_set 0 v)) same (c.best_ways-reached.ensures.reached v);
+      best = λ v. subst (λ (L : LegTable). BestOpen K (grid (leg_of L)) empty_set 0 v (length_at r v)) same (c.search-reached.ensures.best v);
+      reached = λ v. subst (λ (L : LegTable). Tells (is_some (length_at r v)) (Leads (grid (leg_of L)) empty_set 0 v)) same (c.search-reached.ensures.reached v);
     }

@@ -3,7 +3,7 @@ use Rattle.queue.specs.Queues.{held, room, Ordered}
 use Rattle.entries.specs.Records.{NodeAhead}
 use Rattle.legs.specs.Tables.{positions_of, leg_of, length_at}
 use Rattle.legs.specs.Searches.{unreached, pairs, Searched}
-use Rattle.legs.proofs.best_ways.Given as goal
+use Rattle.legs.proofs.search.Given as goal
 
 abbrev pub invariant-loop-best : goal.invariant-loop-best
 invariant-loop-best g l =

@@ -11,7 +11,7 @@ use Rattle.legs.specs.Tables.{leg_of, length_at}
 use Rattle.legs.specs.Searches.{Lengths, open_legs, adding_all, Searched}
 use Rattle.legs.proofs.Spreads.{unreached_le}
 use Rattle.legs.proofs.Searching.{table_legs, searched_first, searched_shuffled, searched_end}
-use Rattle.legs.proofs.best_ways.Goals as goal
+use Rattle.legs.proofs.search.Goals as goal
 
 pub reach-requires : goal.reach-requires
 reach-requires g c =
