@@ -2,7 +2,7 @@
 use Rattle.std.proofs.Common.{◌≡◌, ℕ, suc, ◌+◌, ◌-◌, ◌<◌, ◌≤◌, Bool, true, false, cond, not, eqb, List, [], ◌∷◌, ◌++◌, length, take, drop, sym, refl, ap, ◌∙◌, subst, inl, inr, add-one, one-add, arith, length-drop, length-take, true-eqb}
 use Rattle.std.proofs.lemmas.List.{take_all, drop_all}
 use Rattle.std.proofs.lemmas.Slice.{between_to_end}
-use Rattle.commands.specs.Text.{onto, lines_of, before, FirstLine}
+use Rattle.commands.specs.Text.{onto, lines_of, before, FirstLine, Parted}
 
 -- the first line has n bytes, and its end is left out
 abbrev Splits : List ℕ → ℕ → Type 0
@@ -39,8 +39,12 @@ module _ (bs : List ℕ) (n : ℕ) (is : n ≡ before 10 bs) (some : 0 < length 
         lines = rw (e, between_to_end bs (n + 1) (length bs) (omega arith), add-one n) (subst (Splits bs) (sym is) (splits bs some));
         within = simp (length-take, length-drop) (omega arith);
         less = simp (length-take, length-drop) (omega arith);
-        whole = inl (rw (e, between_to_end bs (n + 1) (length bs) (omega arith), add-one n) (subst (λ k. bs ≡ take k bs ++ (10 ∷ drop (suc k) bs)) (sym is) (parts bs (omega arith))));
       }
+
+  pub parted_with_end : n < length bs → Parted bs (take (n - 0) bs) (take (length bs - (n + 1)) (drop (n + 1) bs))
+  parted_with_end inside =
+      let e : n - 0 ≡ n = omega arith in
+      inl (rw (e, between_to_end bs (n + 1) (length bs) (omega arith), add-one n) (subst (λ k. bs ≡ take k bs ++ (10 ∷ drop (suc k) bs)) (sym is) (parts bs (omega arith))))
 
   -- and where it has none
   pub without_end : length bs ≤ n → FirstLine bs bs (take (length bs - n) (drop n bs))
@@ -48,5 +52,7 @@ module _ (bs : List ℕ) (n : ℕ) (is : n ≡ before 10 bs) (some : 0 < length 
     lines = rw (between_to_end bs n (length bs) (omega arith), drop_all n bs out) (rw (take_all n bs out, drop_all (suc n) bs (omega arith)) at (subst (Splits bs) (sym is) (splits bs some)));
     within = simp (length-take, length-drop) (omega arith);
     less = simp (length-take, length-drop) (omega arith);
-    whole = inr (refl, rw (between_to_end bs n (length bs) (omega arith)) (drop_all n bs out));
   }
+
+  pub parted_without_end : length bs ≤ n → Parted bs bs (take (length bs - n) (drop n bs))
+  parted_without_end out = inr (refl, rw (between_to_end bs n (length bs) (omega arith)) (drop_all n bs out))

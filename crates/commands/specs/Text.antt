@@ -44,5 +44,7 @@ pub record FirstLine (text line rest : List ℕ) : Type 0 where
   pub lines : lines_of text ≡ line ∷ lines_of rest
   pub within : length line + length rest ≤ length text
   pub less : length rest < length text
-  -- the line's end stands between the two, or the line is all of the text
-  pub whole : (text ≡ line ++ (10 ∷ rest)) ⊎ ((text ≡ line) × (rest ≡ []))
+
+-- the line's end stands between the line and the rest, or the line is all of the text
+abbrev pub Parted : List ℕ → List ℕ → List ℕ → Type 0
+Parted text line rest = (text ≡ line ++ (10 ∷ rest)) ⊎ ((text ≡ line) × (rest ≡ []))

@@ -26,8 +26,6 @@ pub record Begins (text : List ℕ) (k : KindWord) (rest : List ℕ) : Type 0 wh
   pub size : length text ≤ 4096
   pub lines : lines_of text ≡ word k ∷ lines_of rest
   pub less : length rest < length text
-  -- the line's end stands between the two, or the word is all of the text
-  pub whole : (text ≡ word k ++ (10 ∷ rest)) ⊎ ((text ≡ word k) × (rest ≡ []))
 
 -- the text is refused: it is longer than 4,096 bytes, or else its first line is the word of no kind, or missing
 abbrev pub Faulty : List ℕ → TextFault → Type 0

@@ -1,13 +1,14 @@
 // The lines of a text, one after another.
-ghost use Rattle.std.specs.Prelude.{◌≡◌, ◌<◌, [], length, MatchOption};
-ghost use Rattle.commands.specs.Text.{lines_of, FirstLine, LinesStand};
+ghost use Rattle.std.specs.Prelude.{◌≡◌, ◌<◌, [], length, IfSome, MatchOption};
+ghost use Rattle.commands.specs.Text.{lines_of, FirstLine, Parted, LinesStand};
 
 use crate::scan::length_before;
 
 // The first line of a text that has a byte, without its end, and the text after it.
 fn split_line<'a>(text: &'a [u8]) -> (&'a [u8], &'a [u8])
     requires { 0 < length text.now }
-    ensures { FirstLine text.now result.0.now result.1.now }
+    ensures first { FirstLine text.now result.0.now result.1.now }
+    ensures whole { Parted text.now result.0.now result.1.now }
 {
     let n = length_before(text, b'\n');
     if n < text.len() {
@@ -19,7 +20,8 @@ fn split_line<'a>(text: &'a [u8]) -> (&'a [u8], &'a [u8])
 
 // The first line, without its end, and the text after it; none if the text has no line.
 pub fn first_line<'a>(text: &'a [u8]) -> Option<(&'a [u8], &'a [u8])>
-    ensures { MatchOption result (lines_of text.now ≡ []) (λ p. FirstLine text.now p.0.now p.1.now) }
+    ensures first { MatchOption result (lines_of text.now ≡ []) (λ p. FirstLine text.now p.0.now p.1.now) }
+    ensures whole { IfSome result (λ p. Parted text.now p.0.now p.1.now) }
 {
     if text.is_empty() {
         return None;

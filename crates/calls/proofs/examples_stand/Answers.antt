@@ -4,4 +4,4 @@ use Rattle.calls.proofs.examples_stand.Goals as goal
 use Rattle.calls.proofs.Examples as examples
 
 pub returns : goal.returns
-returns c = record { solved = examples.solved c.kinds-are-lawful.ensures; zero = refl }
+returns c = record { solved = examples.solved c.kinds_are_lawful.ensures; zero = refl }

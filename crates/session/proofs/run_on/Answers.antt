@@ -5,9 +5,9 @@ use Rattle.session.proofs.run_on.Goals as goal
 
 pub returns-in-Ok : goal.returns-in-Ok
 returns-in-Ok g c =
-    let begins = c.in-Ok.ensures in
+    let begins = c.in-Ok.ensures.opened in
     answered c.in-Ok.kind (lines_of c.in-Ok.rest.now) _ begins.size begins.lines c.answer_kind.ensures
 
 pub returns-in-Err : goal.returns-in-Err
 returns-in-Err g c =
-    faulty_text (g.M.Map.graph c.args.map) c.args.text.now c.in-Err.fault c.number.result _ _ c.in-Err.ensures c.number.ensures c.requires c.put_refusal.ensures
+    faulty_text (g.M.Map.graph c.args.map) c.args.text.now c.in-Err.fault c.number.result _ _ c.in-Err.ensures.opened c.number.ensures c.requires c.put_refusal.ensures

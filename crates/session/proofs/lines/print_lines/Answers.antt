@@ -9,7 +9,7 @@ use Rattle.session.proofs.lines.print_lines.Goals as goal
 pub loop-line-preserved : goal.loop-line-preserved
 loop-line-preserved c =
     let inv = c.loop-line.invariant in
-    let first = c.in-Some.ensures in
+    let first = c.in-Some.ensures.first in
     let put = c.print_line.ensures in
     let fewer = ap length first.lines in (
       omega (arith, inv.0, first.less, first.within, put.grows),
@@ -21,5 +21,5 @@ loop-line-preserved c =
 
 pub returns : goal.returns
 returns c =
-    let whole = c.loop-line.invariant.3 [] (subst (λ ls. Told (c.loop-line.i + 2) ls (drop c.loop-line.i c.args.answers.now) []) (sym c.in_default.ensures) refl) in
+    let whole = c.loop-line.invariant.3 [] (subst (λ ls. Told (c.loop-line.i + 2) ls (drop c.loop-line.i c.args.answers.now) []) (sym c.in_default.ensures.first) refl) in
     subst (Told 2 (lines_of c.args.text.now) c.args.answers.now) (append-nil (printed c.loop-line.out)) whole

@@ -1,10 +1,10 @@
-use drawing::{DIAMOND, FOUR, Question, Street, dense, drawn, same};
+use super::drawing::*;
+use super::relaxing::*;
 use lengths::{Gates, Paces, Zeroed};
 use maps::{Map, Reversed, TwoWay};
 use sheet::{Sheet, least_sheet, open_sheet};
 use std::alloc::Global;
 use std::process::Abort;
-use std::test::Fail;
 use trees::{bounded_run, bounded_run_against, bounded_tree};
 
 // Loops, parallel streets of equal length, an empty slot, and the longest street.
@@ -20,7 +20,7 @@ const ODD: [Street; 9] = [
     (3, 4, 4_294_967_295),
 ];
 
-// Both runs from one root, beside the other solver.
+// Both runs from one root, beside the other search.
 fn both_ways<K: Zeroed>(rt: &impl Abort, map: &Sheet<'_>, q: &Question<'_>) -> Result<(), Fail> {
     let along = bounded_run::<Sheet<'_>, K>(map, q.transit, q.closed, q.root);
     same::<Sheet<'_>, K>(rt, map, q, &along)?;

@@ -1,16 +1,16 @@
-// A solver of another make: every street is relaxed, over and over, until nothing changes.
+// A search of another make: every street is relaxed, over and over, until nothing changes.
 use lengths::{Coded, Zeroed};
 use maps::Map;
 use std::process::Abort;
 use std::test::Fail;
 use trees::{BoundedTree, is_closed};
 
-// What is asked for: past no transit node but the root, over no closed street.
+// What a search looks for: past no transit node but the root, over no closed street.
 #[derive(Drop)]
-pub struct Question<'a> {
-    pub transit: &'a [u16],
-    pub closed: &'a [bool; 512],
-    pub root: u16,
+pub(crate) struct Question<'a> {
+    pub(crate) transit: &'a [u16],
+    pub(crate) closed: &'a [bool; 512],
+    pub(crate) root: u16,
 }
 
 fn may_take(q: &Question<'_>, e: u16, tail: u16) -> bool {
@@ -44,7 +44,7 @@ fn round<M: Map, K: Zeroed>(map: &M, q: &Question<'_>, lengths: &mut [Option<u64
 }
 
 // The best length of each junction.
-pub fn relaxed<M: Map, K: Zeroed>(map: &M, q: &Question<'_>) -> [Option<u64>; 130] {
+pub(crate) fn relaxed<M: Map, K: Zeroed>(map: &M, q: &Question<'_>) -> [Option<u64>; 130] {
     let mut lengths = [None; 130];
     if q.root > 0 && q.root <= map.junctions() && q.root < 130 {
         lengths[q.root as usize] = Some(K::ZERO.code());
@@ -57,8 +57,8 @@ pub fn relaxed<M: Map, K: Zeroed>(map: &M, q: &Question<'_>) -> [Option<u64>; 13
     lengths
 }
 
-// Each length of the tree is the other solver's, and each slot is a street that gives it.
-pub fn same<M: Map, K: Zeroed>(
+// Each length of the tree is the other search's, and each slot is a street that gives it.
+pub(crate) fn same<M: Map, K: Zeroed>(
     rt: &impl Abort,
     map: &M,
     q: &Question<'_>,

@@ -1,13 +1,13 @@
-// Lives of hundreds of mixed calls beside the simple solver.
+// Lives of hundreds of mixed calls beside the simple search.
+use super::drawing::*;
+use super::relaxing::*;
 use block::{Block, least_block, open_block};
 use calls::{Answer, Call, Fault};
-use drawing::{Question, block_by_chance, dense, drawn, next_chance, relaxed, sparse};
 use lengths::{Gates, Paces, Zeroed};
 use lives::live;
 use maps::{Map, TwoWay};
 use sheet::{Sheet, least_sheet, open_sheet};
 use std::process::Abort;
-use std::test::Fail;
 
 // How many calls each life has.
 const LIFE: usize = 300;
@@ -150,7 +150,7 @@ fn calls_by_chance(names: u16, seed: u32) -> [Call; LIFE] {
     calls
 }
 
-// A life beside the simple solver.
+// A life beside the simple search.
 fn beside<M: TwoWay + Drop, K: Zeroed>(rt: &impl Abort, map: M, names: u16) {
     let calls = calls_by_chance(names, 3 + names as u32);
     let mut answers = [Answer::Done; LIFE];

@@ -1,6 +1,6 @@
 // The solved examples through the calls of a life, the end of the tally, and a list named anew.
+use super::drawing::*;
 use calls::{Answer, Call, Fault};
-use drawing::{DIAMOND, FOUR, dense, drawn};
 use lengths::{Gates, Paces, Zeroed};
 use lives::live;
 use maps::{Map, TwoWay};

@@ -2,14 +2,14 @@
 use std::alloc::{AllocError, Global};
 
 // A street: tail, head, length. Tail 0 stands for an empty slot.
-pub type Street = (u8, u8, u32);
+pub(crate) type Street = (u8, u8, u32);
 
-pub const FOUR: [Street; 5] = [(1, 2, 3), (2, 4, 4), (1, 3, 5), (3, 4, 5), (4, 1, 1)];
+pub(crate) const FOUR: [Street; 5] = [(1, 2, 3), (2, 4, 4), (1, 3, 5), (3, 4, 5), (4, 1, 1)];
 
-pub const DIAMOND: [Street; 4] = [(1, 2, 1), (1, 3, 1), (2, 4, 1), (3, 4, 1)];
+pub(crate) const DIAMOND: [Street; 4] = [(1, 2, 1), (1, 3, 1), (2, 4, 1), (3, 4, 1)];
 
 // The number after one below 65,537 in a row that looks like chance.
-pub fn next_chance(last: u32) -> u32 {
+pub(crate) fn next_chance(last: u32) -> u32 {
     last.wrapping_mul(48_271).wrapping_add(11) % 65_537
 }
 
@@ -57,7 +57,7 @@ fn push_slots(bytes: &mut Vec<u8>, streets: &[Street]) -> Result<(), AllocError>
 }
 
 // The bytes of the sheet with n junctions and these streets, slot by slot.
-pub fn drawn(heap: Global, n: u8, streets: &[Street]) -> Result<Vec<u8>, AllocError> {
+pub(crate) fn drawn(heap: Global, n: u8, streets: &[Street]) -> Result<Vec<u8>, AllocError> {
     let mut bytes = Vec::new(heap);
     bytes.push(0x53)?;
     bytes.push(n)?;
@@ -72,7 +72,7 @@ pub fn drawn(heap: Global, n: u8, streets: &[Street]) -> Result<Vec<u8>, AllocEr
 }
 
 // A street from each of the first n junctions to each of them, itself included; lengths by a rule, or all equal.
-pub fn dense(heap: Global, n: u8, length: Option<u32>) -> Result<Vec<Street>, AllocError> {
+pub(crate) fn dense(heap: Global, n: u8, length: Option<u32>) -> Result<Vec<Street>, AllocError> {
     let mut streets = Vec::new(heap);
     let mut last = 7;
     for tail in 0..n {
@@ -89,7 +89,7 @@ pub fn dense(heap: Global, n: u8, length: Option<u32>) -> Result<Vec<Street>, Al
 }
 
 // As many streets as are wanted between the first 22 junctions, by chance; some slots are empty.
-pub fn sparse(heap: Global, wanted: u16, seed: u32) -> Result<Vec<Street>, AllocError> {
+pub(crate) fn sparse(heap: Global, wanted: u16, seed: u32) -> Result<Vec<Street>, AllocError> {
     let mut streets = Vec::new(heap);
     let mut last = seed;
     for _ in 0..wanted {
@@ -106,7 +106,7 @@ pub fn sparse(heap: Global, wanted: u16, seed: u32) -> Result<Vec<Street>, Alloc
 }
 
 // The bytes of a block with sides opened by chance, none at the border.
-pub fn block_by_chance(
+pub(crate) fn block_by_chance(
     heap: Global,
     width: u8,
     height: u8,
