@@ -5,6 +5,8 @@
 // are taken as they are stored, and of the others those that are reached are worked out anew. The tables are only read, and all that is
 // asked is that they fit map and kind. Nothing is allocated.
 // Not promised here: the tally, which the oracle keeps.
+#![tactic(auto)]
+
 ghost use Rattle.std.specs.Prelude.{◌≡◌, ◌≤◌, true, ◌&&◌};
 ghost use Rattle.asks.specs.Reached.{passing};
 ghost use Rattle.calls.specs.Gives.{Finds, Replied};
@@ -14,7 +16,7 @@ ghost use Rattle.tables.specs.Fits.{IndexFits};
 ghost use Rattle.answering.specs.Handing.{is_counted};
 
 use calls::{Fault, Reply};
-use handing::{blank_rows, search_reached, hand_ends, is_redone};
+use handing::{blank_rows, hand_ends, is_redone, search_reached};
 use legs::Reached;
 use lengths::Zeroed;
 use maps::{Map, TwoWay};

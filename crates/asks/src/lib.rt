@@ -3,6 +3,8 @@
 // Each function here states theorems in its contract, answers 0 and does nothing else. They hold for every lawful
 // kind of length and every map whose street lengths are codes, as those of every lawful map are.
 // Nothing is built, asked or searched here: the crates that do it say what they leave in these definitions.
+#![tactic(auto)]
+
 ghost use Rattle.std.specs.Prelude.{◌≡◌};
 ghost use Rattle.asks.specs.Claims.{TreesInWords, StoredInWords, NumberCounts, AffectedByNumber, NumberFollowsMarks, IndexInverts, NumbersFollowIndex};
 ghost use Rattle.asks.specs.Claims.{HandedAreLegs, HandedAnswer, HandedReach, PartialLegsAnswer, PartialHandedAnswer, PartialHandedReach, LastRound, RoundsGrow};

@@ -3,6 +3,8 @@
 // A `Block` can only be had over bytes that the layout admits, so that its calls answer by the map's meaning. `open_block` takes any
 // bytes: it fills a place that already holds a block, or answers the first fault and leaves the place as it was. It keeps no copy
 // of the bytes, and says nothing of who may change them.
+#![tactic(auto)]
+
 ghost use Rattle.std.specs.Prelude.{◌≡◌, ◌<◌, true, false, is_ok};
 ghost use Rattle.maps.specs.Graph.{Leaves, Enters, Lowest};
 ghost use Rattle.formats.specs.Faults.{answered};

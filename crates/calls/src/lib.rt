@@ -3,6 +3,8 @@
 // What a call does and answers is defined over a moment of the oracle: plan or index, transit list, closed slots, tally.
 // The last functions state theorems in their contracts, answer 0 and do nothing else; those about lives hold for every
 // lawful map and every lawful kind of length. No oracle is here: the crates that have one cite these definitions.
+#![tactic(auto)]
+
 ghost use Rattle.std.specs.Prelude.{◌≡◌};
 ghost use Rattle.calls.specs.Faults.{number_of};
 ghost use Rattle.calls.specs.Claims.{LivesFit, RefusalsKeep, ClosuresFollow, LivesExist, LivesOnce};

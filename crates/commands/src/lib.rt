@@ -5,6 +5,8 @@
 // 65,535 (52, with the digits of the first such number as they stand in the line). Nothing is copied: lines
 // and tokens are parts of the text.
 // Not promised: anything about what a call does.
+#![tactic(auto)]
+
 mod command;
 mod lines;
 mod opening;

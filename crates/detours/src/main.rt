@@ -2,6 +2,8 @@
 //
 // It only reads, calls and prints: what is printed is what `session::run_text` puts into the output. A missing map file counts as
 // empty. Any other fault of reading, or want of memory for the output, ends the program with that error, and nothing is printed.
+#![tactic(auto)]
+
 use output::Output;
 use reading::{read_map, read_text};
 use session::run_text;

@@ -3,6 +3,8 @@
 //
 // Promised: for every lawful kind and every record that is told by its length and its number, the
 // order is total, and `precedes` answers by it.
+#![tactic(auto)]
+
 ghost use Rattle.std.specs.Prelude.{◌≡◌, ℕ};
 ghost use Rattle.entries.specs.Orders.{Keyed};
 ghost use Rattle.entries.specs.Ranking.{keyed_total, keyed_chain, keyed_single};

@@ -2,6 +2,8 @@
 //
 // A plan is built before it is asked, and an index is planned anew before a junction is named in it. Without either step the program
 // is refused before it runs, for the method that its plan or index lacks: tests/faulty has the two texts.
+#![tactic(auto)]
+
 use lengths::Paces;
 use oracle::Plan;
 use sheet::{Sheet, least_sheet};

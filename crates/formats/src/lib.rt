@@ -1,6 +1,8 @@
 // What the map formats share: the fault of an opening with its number, and numbers of several bytes.
 //
 // Each fault is one numbered reason to refuse a file, defined in specs/Faults. Nothing here knows a format.
+#![tactic(auto)]
+
 ghost use Rattle.std.specs.Prelude.{◌≡◌};
 ghost use Rattle.formats.specs.Faults.{number_of};
 

@@ -159,10 +159,7 @@ fn chain() -> [Leg; 18] {
 fn through_all_positions(rt: HostRuntime) {
     goals(&rt, 16, &chain(), Some(340), Some(400));
     // with fewer positions the chain breaks
-    assert_eq!(rt;
-        search::<Paces>(&table_of(15, &chain())).goal(),
-        Some(400)
-    );
+    assert_eq!(rt; search::<Paces>(&table_of(15, &chain())).goal(), Some(400));
 }
 
 // A leg of the dense tables; one in four is absent, and said as one that names no leg.

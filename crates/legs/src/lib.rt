@@ -7,6 +7,8 @@
 // nothing; `search` leaves each node with the best length of all ways over the legs from the start, or none exactly if no way
 // leads there. Every put into its queue finds a place. Nothing is allocated.
 // Not promised: over which legs a best way goes. Whether the legs are those of a map is not known here.
+#![tactic(auto)]
+
 ghost use Rattle.std.specs.Prelude.{◌≡◌, ℕ, ◌+◌, ◌<◌, ◌≤◌, ◌∷◌, length, is_some, Some, None, nat_eq};
 ghost use Rattle.std.specs.Map.{update};
 ghost use Rattle.std.specs.List.{AllByRecursion as All};

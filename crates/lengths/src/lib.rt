@@ -4,6 +4,8 @@
 // Promised of every kind, for all codes: the laws of `LawfulKind` in specs/Kinds.antt, and that join,
 // test and zero answer by the kind's meaning. Paces and gates are the two kinds here.
 // Nothing is said of numbers that are no codes.
+#![tactic(auto)]
+
 ghost use Rattle.std.specs.Prelude.{◌≡◌, ℕ};
 ghost use Rattle.lengths.specs.Kinds.{Kind, LawfulKind, paces, gates};
 ghost use Rattle.lengths.specs.Laws.{KindsLawful};

@@ -5,6 +5,8 @@
 // what is defined for it, lengths answered are best, no way is answered exactly if there is none, and equal questions about equal
 // streets get equal answers. Nothing is expected of the caller, and nothing is allocated.
 // A list that is longer than the places for answers is lived as far as the places reach; nothing is said of the calls after that.
+#![tactic(auto)]
+
 ghost use Rattle.std.specs.Prelude.{◌≡◌, true, false, length, drop, Some, Option as Maybe, ◌≢◌};
 ghost use Rattle.calls.specs.declared.Call.{Call as Command};
 ghost use Rattle.calls.specs.declared.Call.TheVariants.{Build, Replan};

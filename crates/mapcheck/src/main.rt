@@ -2,6 +2,8 @@
 //
 // A missing file counts as empty. Any other fault of reading ends the program with that error, and nothing is printed. What is printed
 // is the text of `mapreport::report`.
+#![tactic(auto)]
+
 use mapreport::report;
 use reading::read_map;
 use std::io;

@@ -4,6 +4,8 @@
 // format, counts junctions, slots and streets and has a line for each street; where it does not, the text is the refusal with its
 // number. `describe` gives the same text for every map. Where memory is wanting there is no text; that nothing else fails is tested, and
 // not promised, since the library does not say when memory is wanting. Neither reads a file nor prints.
+#![tactic(auto)]
+
 ghost use Rattle.std.specs.Prelude.{◌≡◌, ◌++◌, IfOk, string_bytes, OnOk};
 ghost use Rattle.mapreport.specs.Report.{street_line, street_count, head_line, map_text, refusal_text, sheet_text, block_text, report_of};
 

@@ -3,6 +3,8 @@
 // A map has junctions and slots, both numbered from 1; a slot is empty or holds a street. What a map means is its ghost member
 // `graph`, and every implementation shows that each call answers by it and that the bounds of `lawful` hold. The calls take any
 // argument, never refuse and alter nothing. Nothing here says how a map is stored: the formats do.
+#![tactic(auto)]
+
 ghost use Rattle.std.specs.Prelude.{◌≡◌, ℕ, Decides};
 ghost use Rattle.maps.specs.Graph.{Graph, EqualStreets, tail_of, head_of, Leaves, Enters, Lowest, LawfulMap, reversed};
 ghost use Rattle.maps.specs.Laws.{reversed_lawful};

@@ -5,6 +5,8 @@
 // fault that holds, and the tables are then as before. All that is asked, that the tables fit map and kind, holds again after each call.
 // Nothing is allocated.
 // Not promised here: what closures mean for an ask. The crate `answering` says it.
+#![tactic(auto)]
+
 ghost use Rattle.std.specs.Prelude.{◌≡◌, true, false, is_ok};
 ghost use Rattle.calls.specs.Gives.{outcome};
 ghost use Rattle.calls.specs.Moments.{close_fault, reopen_fault, after};

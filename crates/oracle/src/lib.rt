@@ -5,6 +5,8 @@
 // the defined redone count, and changes only the tally; a refused call changes nothing. What a call asks, that the tables fit map and
 // kind, every earlier call ensures from creation on. Nothing is allocated.
 // Not promised here: what follows for whole lives of calls. The crate `lives` says it.
+#![tactic(auto)]
+
 mod asking;
 pub mod index;
 pub mod plan;

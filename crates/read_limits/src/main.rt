@@ -1,4 +1,6 @@
 // The program `read_limits`: says how many bytes of map file and command text are read. Its run has more of both than count.
+#![tactic(auto)]
+
 use reading::{read_map, read_text};
 use std::io;
 

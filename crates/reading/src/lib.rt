@@ -2,6 +2,8 @@
 //
 // No contract can say what is read. The program read_limits shows how much of long input is, and a test that a missing map file counts as
 // empty. Any other fault of reading, and want of memory, is passed on.
+#![tactic(auto)]
+
 use std::io::Read;
 use std::{fs, io};
 

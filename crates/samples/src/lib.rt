@@ -3,6 +3,8 @@
 // Each function answers the bytes of one file, as specs/Files has them. `examples_stand` answers 0, and its contract is the table of
 // examples of the two formats: each is an equation of the definitions that the formats' contracts cite. What a question on the files
 // answers is not said here: the crate `solved` does.
+#![tactic(auto)]
+
 ghost use Rattle.std.specs.Prelude.{◌≡◌};
 ghost use Rattle.samples.specs.Examples.{SheetExamples, BlockExamples};
 ghost use Rattle.samples.specs.Files.{four_junctions, two_ways, two_cells};

@@ -8,6 +8,7 @@ use lives::live;
 use maps::{Map, TwoWay};
 use sheet::{Sheet, least_sheet, open_sheet};
 use std::process::Abort;
+use std::test::Fail;
 
 // How many calls each life has.
 const LIFE: usize = 300;

@@ -5,6 +5,7 @@ use maps::{Map, Reversed, TwoWay};
 use sheet::{Sheet, least_sheet, open_sheet};
 use std::alloc::Global;
 use std::process::Abort;
+use std::test::Fail;
 use trees::{bounded_run, bounded_run_against, bounded_tree};
 
 // Loops, parallel streets of equal length, an empty slot, and the longest street.

@@ -4,6 +4,8 @@
 // the grammar of lines, the life of the calls and the written form of each answer. Nothing is expected of the caller and nothing
 // fails: the memory is the output's. At most the first 5,637 bytes of the map and a text of at most 4,096 bytes count.
 // Not promised: where bytes and text come from, or when the output is printed.
+#![tactic(auto)]
+
 ghost use Rattle.std.specs.Prelude.{◌≡◌, ◌≤◌, [], length};
 ghost use Rattle.block.specs.Layout.{block_graph};
 ghost use Rattle.block.specs.Refusal.{refusal as block_refusal};

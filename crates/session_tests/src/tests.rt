@@ -1,6 +1,8 @@
 // Each table holds inputs and what is printed for them.
 use output::Output;
 use session::run_text;
+use std::alloc::Global;
+use std::process::Abort;
 use std::test::*;
 
 // The sheet with four junctions and five streets.
@@ -11,21 +13,31 @@ const FOUR_JUNCTIONS: &[u8] =
 const TWO_CELLS: &[u8] = b"\x47\x02\x01\x02\x30";
 
 // Each row holds a text, and what is printed for it over the map.
-fn texts_print(rt: HostRuntime, map: &[u8], rows: &[(&[u8], &[u8])]) -> Result<(), Fail> {
-    let mut out = Output::new(rt.alloc())?;
+fn texts_print(
+    rt: &impl Abort,
+    heap: Global,
+    map: &[u8],
+    rows: &[(&[u8], &[u8])],
+) -> Result<(), Fail> {
+    let mut out = Output::new(heap)?;
     for row in rows {
         run_text(map, row.0, &mut out);
-        assert_eq!(out.as_bytes(), row.1);
+        assert_eq!(rt; out.as_bytes(), row.1);
     }
     Ok(())
 }
 
 // Each row holds a map file, and what is printed for the text over it.
-fn maps_print(rt: HostRuntime, text: &[u8], rows: &[(&[u8], &[u8])]) -> Result<(), Fail> {
-    let mut out = Output::new(rt.alloc())?;
+fn maps_print(
+    rt: &impl Abort,
+    heap: Global,
+    text: &[u8],
+    rows: &[(&[u8], &[u8])],
+) -> Result<(), Fail> {
+    let mut out = Output::new(heap)?;
     for row in rows {
         run_text(row.0, text, &mut out);
-        assert_eq!(out.as_bytes(), row.1);
+        assert_eq!(rt; out.as_bytes(), row.1);
     }
     Ok(())
 }
@@ -34,7 +46,8 @@ fn maps_print(rt: HostRuntime, text: &[u8], rows: &[(&[u8], &[u8])]) -> Result<(
 #[test]
 fn map_refusals(rt: HostRuntime) -> Result<(), Fail> {
     maps_print(
-        rt,
+        &rt,
+        rt.alloc(),
         b"",
         &[
             (b"", b"refused 0 1\n"),
@@ -80,7 +93,8 @@ fn map_refusals(rt: HostRuntime) -> Result<(), Fail> {
 #[test]
 fn words(rt: HostRuntime) -> Result<(), Fail> {
     texts_print(
-        rt,
+        &rt,
+        rt.alloc(),
         FOUR_JUNCTIONS,
         &[
             (b"", b"refused 1 54\n"),
@@ -100,7 +114,8 @@ fn words(rt: HostRuntime) -> Result<(), Fail> {
 #[test]
 fn lines(rt: HostRuntime) -> Result<(), Fail> {
     texts_print(
-        rt,
+        &rt,
+        rt.alloc(),
         FOUR_JUNCTIONS,
         &[
             (b"paces\nT 2", b"ok\n"),
@@ -141,7 +156,8 @@ fn lines(rt: HostRuntime) -> Result<(), Fail> {
 #[test]
 fn full_list(rt: HostRuntime) -> Result<(), Fail> {
     maps_print(
-        rt,
+        &rt,
+        rt.alloc(),
         b"paces\nT 1\nT 2\nT 3\nT 4\nT 5\nT 6\nT 7\nT 8\nT 9\nT 10\nT 11\nT 12\nT 13\nT 14\nT 15\nT 16\nT 16\nT 17\nT 18\n",
         &[(
             b"\x47\x11\x01\x00\x00\x00\x00\x00\x00\x00\x00\x00\x00\x00\x00\x00\x00\x00\x00\x00",
@@ -156,7 +172,8 @@ fn block_and_sheet(rt: HostRuntime) -> Result<(), Fail> {
     let printed: &[u8] =
         b"ok\nok\nok\nlength 4 redone 0\nok\nno way redone 1\nrefused 8 21\nok\nrefused 10 23\nno way redone 0\nlength 0 redone 0\nrefused 13 24\ntally 4\nok\nrefused 16 53\n";
     maps_print(
-        rt,
+        &rt,
+        rt.alloc(),
         b"paces\nT 1\nT 2\nB\nQ 1 2\nC 2\nQ 1 2\nC 1\nR 2\nR 2\nQ 2 1\nQ 2 2\nQ 1 3\nN\nP\nQ 1 1\n",
         &[
             (TWO_CELLS, printed),
@@ -174,7 +191,8 @@ fn text_sizes(rt: HostRuntime) -> Result<(), Fail> {
     let longest = [b'\n'; 4_096];
     let longer = [b'\n'; 4_097];
     texts_print(
-        rt,
+        &rt,
+        rt.alloc(),
         FOUR_JUNCTIONS,
         &[(&longest, b"refused 1 54\n"), (&longer, b"refused 1 55\n")],
     )
@@ -183,7 +201,7 @@ fn text_sizes(rt: HostRuntime) -> Result<(), Fail> {
 #[test]
 fn long_text_over_no_map(rt: HostRuntime) -> Result<(), Fail> {
     let ends = [b'\n'; 4_097];
-    texts_print(rt, b"", &[(&ends, b"refused 0 1\n")])
+    texts_print(&rt, rt.alloc(), b"", &[(&ends, b"refused 0 1\n")])
 }
 
 // A text of 4,096 bytes whose lines after the word are all empty: each is refused in its own line.
@@ -207,7 +225,7 @@ fn many_digits(rt: HostRuntime) -> Result<(), Fail> {
     let mut wanted = [b'7'; 214];
     wanted[0..13].copy_from_slice(b"refused 2 52 ");
     wanted[213] = b'\n';
-    texts_print(rt, FOUR_JUNCTIONS, &[(&text, &wanted)])
+    texts_print(&rt, rt.alloc(), FOUR_JUNCTIONS, &[(&text, &wanted)])
 }
 
 #[test]
@@ -215,7 +233,7 @@ fn zeros_before_a_digit(rt: HostRuntime) -> Result<(), Fail> {
     let mut text = [b'0'; 208];
     text[0..8].copy_from_slice(b"paces\nT ");
     text[207] = b'2';
-    texts_print(rt, FOUR_JUNCTIONS, &[(&text, b"ok\n")])
+    texts_print(&rt, rt.alloc(), FOUR_JUNCTIONS, &[(&text, b"ok\n")])
 }
 
 // The longest sheet, of 5,636 bytes, with no streets; one byte more, and 6,000 bytes of which the first 5,637 count.
@@ -229,7 +247,8 @@ fn map_sizes(rt: HostRuntime) -> Result<(), Fail> {
     let mut far = [0; 6_000];
     far[0..4].copy_from_slice(head);
     maps_print(
-        rt,
+        &rt,
+        rt.alloc(),
         b"paces\nB\n",
         &[
             (&longest, b"ok\n"),

@@ -3,6 +3,8 @@
 // Each row of specs/Table is a question with its answer, on a map that is read from the bytes of its file. specs/Rows says what each form of
 // row means, in the relations that the contracts of the code cite. The whole table is tested by computation, once, and one lemma turns
 // the test of a row into what the row says.
+#![tactic(auto)]
+
 ghost use Rattle.std.specs.Prelude.{◌≡◌};
 ghost use Rattle.solved.specs.Table.{Solved};
 

@@ -5,6 +5,8 @@
 // that hold it; closures, transit list and tally are as before. All that is asked is that the tables of the plan fit the map.
 // Nothing is allocated.
 // Not promised here: how the stored trees answer questions. The crate `answering` says it.
+#![tactic(auto)]
+
 ghost use Rattle.std.specs.Prelude.{◌≡◌, ℕ, ◌+◌, ◌-◌, ◌<◌, ◌≤◌, [], ◌∷◌, ◌++◌, length, if◌then◌else◌, slice_index_or};
 ghost use Rattle.std.specs.List.{AllByRecursion as All};
 ghost use Rattle.walks.specs.Trees.{OnMap, tree as tree_of, holds_street};

@@ -7,6 +7,8 @@
 // are read for every number, absent outside their range; a row of a leg table is filled from a tree for every table, position and list.
 // No call refuses anything or asks anything of its caller. Nothing is allocated.
 // Not promised here: that the tables fit a map. The crates above say what each call leaves in them.
+#![tactic(auto)]
+
 ghost use Rattle.std.specs.Prelude.{◌≡◌, ◌-◌, ◌≤◌, false, length, if◌then◌else◌, None, nat_le};
 ghost use Rattle.std.specs.List.{slice_get};
 ghost use Rattle.asks.specs.Handed.{is_position};

@@ -6,6 +6,8 @@
 // closed marks; a root off the map settles nothing. Every call takes any number, refuses nothing and ends, and no
 // candidate is lost for want of a place. Nothing is allocated.
 // Not promised here: what the defined run means in walks. The theorems of `walks` say it.
+#![tactic(auto)]
+
 ghost use Rattle.std.specs.Prelude.{◌≡◌, ℕ, ◌<◌, ◌≤◌, true, false, is_some, Some, None};
 ghost use Rattle.maps.specs.Graph.{reversed};
 ghost use Rattle.walks.specs.Streets.{empty_set, member};

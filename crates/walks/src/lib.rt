@@ -3,6 +3,8 @@
 // Each function here states theorems in its contract, answers 0 and does nothing else. The theorems hold for every
 // lawful kind of length and every map whose street lengths are codes, as those of every lawful map are.
 // No run or search is done here: the crates that do them say what they leave in these definitions.
+#![tactic(auto)]
+
 ghost use Rattle.std.specs.Prelude.{◌≡◌};
 ghost use Rattle.walks.specs.Claims.{LawfulIsCoded, RunSound, RunComplete, RunIsTree, ReversedSound, ReversedComplete, RunFollowsRule, RuleHasOneRun};
 ghost use Rattle.walks.specs.Claims.{HeldAtHead, UnaffectedKeeps, AffectedByTest, OneAnswer, RunAnswers};
