@@ -5,7 +5,7 @@ Use: tools/compare.py [COUNT] [FIRST]     COUNT cases (default 2000), numbered f
 
 The model is written from docs/, by other means than the program: files are read by slices, chains by sorting, answers by relaxing
 all streets until nothing changes, trees by scanning every street at each step. The first difference is reported with its map and
-text, kept in target/compare/.
+text, kept in crates/detours/out/compare/.
 """
 import os
 import random
@@ -14,8 +14,8 @@ import sys
 import tempfile
 
 TOP = 2**64 - 1
-PROGRAM = os.path.join(os.path.dirname(os.path.abspath(__file__)), "..", "target", "bin", "detours")
-KEPT = os.path.join(os.path.dirname(os.path.abspath(__file__)), "..", "target", "compare")
+PROGRAM = os.path.join(os.path.dirname(os.path.abspath(__file__)), "..", "crates", "detours", "out", "detours")
+KEPT = os.path.join(os.path.dirname(os.path.abspath(__file__)), "..", "crates", "detours", "out", "compare")
 
 
 # ---- the kinds of length
@@ -359,7 +359,7 @@ def main():
     count = int(sys.argv[1]) if len(sys.argv) > 1 else 2000
     first = int(sys.argv[2]) if len(sys.argv) > 2 else 0
     if not os.path.exists(PROGRAM):
-        sys.exit("target/bin/detours is not built: run rt check detours first")
+        sys.exit("crates/detours/out/detours is not built: run rt run in crates/detours first")
     with tempfile.TemporaryDirectory() as folder:
         for case in range(first, first + count):
             rng = random.Random(case)
@@ -380,7 +380,7 @@ def main():
                 for name, content in (("map.bin", data), ("text", text), ("printed", run.stdout), ("wanted", wanted)):
                     with open(os.path.join(KEPT, name), "wb") as file:
                         file.write(content)
-                sys.exit(f"case {case} differs (status {run.returncode}): see target/compare/")
+                sys.exit(f"case {case} differs (status {run.returncode}): see crates/detours/out/compare/")
     print(f"{count} cases agree")
 
 

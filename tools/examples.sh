@@ -7,6 +7,6 @@ trap 'rm -rf "$room"' EXIT
 for folder in "$root"/examples/*/; do
     python3 "$root/tools/draw.py" "$folder/drawing.txt" "$room/map.bin"
     cmp "$room/map.bin" "$folder/map.bin"
-    (cd "$room" && "$root/target/bin/detours") <"$folder/commands.txt" | diff - "$folder/output.txt"
+    (cd "$room" && "$root/crates/detours/out/detours") <"$folder/commands.txt" | diff - "$folder/output.txt"
     echo "$(basename "$folder"): as written"
 done

@@ -1,5 +1,5 @@
 -- Sums over 1 to n, and over rows and columns.
-use Rattle.std.proofs.Common.{◌≡◌, ℕ, zero, suc, ◌+◌, ◌<◌, ◌≤◌, Bool, ◌⊎◌, sym, refl, ap, ◌∙◌, ⊎_elim, arith}
+use Rattle.std.proofs.Common.{◌≡◌, ℕ, zero, suc, ◌+◌, ◌<◌, ◌≤◌, Bool, sym, refl, ap, ◌∙◌, ⊎_elim, arith}
 use Rattle.walks.proofs.Facts.{le_more}
 use Rattle.asks.specs.Held.{bit}
 use Rattle.asks.specs.Reached.{passing}

@@ -1,9 +1,8 @@
 -- The number of a refusal means what the layout says.
-use Rattle.std.proofs.Common.{◌≡◌, ℕ, ◌+◌, ◌-◌, ◌*◌, ◌<◌, ◌≤◌, Bool, true, false, cond, not, ◌&&◌, ◌||◌, eqb, ltb, ◌⊎◌, List, length, sym, refl, ap, ◌∙◌, subst, ⊎_elim, arith}
+use Rattle.std.proofs.Common.{◌≡◌, ℕ, ◌+◌, ◌-◌, ◌*◌, ◌<◌, ◌≤◌, true, false, cond, not, ◌||◌, eqb, ltb, List, length, sym, refl, ap, ◌∙◌, ⊎_elim, arith}
 use native.Mathlib.Decide.{ℕ_discrete}
-use Rattle.std.proofs.lemmas.Bool.{lt-ltb, ltb-true, ltb-false, ne_eqb, le-ltb, or_from, cond-true, cond-false, cond_both, cases_Bool, both_ways, and_parts, and_from, not-true}
+use Rattle.std.proofs.lemmas.Bool.{lt-ltb, ltb-true, ltb-false, ne_eqb, le-ltb, or_from, cond-true, cond-false, cond_both, cases_Bool, both_ways, and_parts, not-true}
 use Rattle.formats.specs.Bytes.{byte_at}
-use Rattle.formats.specs.Scan.{lowest_in}
 use Rattle.formats.proofs.Scans.{lowest_in_found}
 use Rattle.formats.proofs.Verdicts.{pass, equal, unequal, agree, differ}
 use Rattle.block.specs.declared.cells.Side.{Side}

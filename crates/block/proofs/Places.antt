@@ -1,10 +1,10 @@
 -- Cells by row and column: the slot of a side, the neighbour there, and the map that the bytes say.
-use Rattle.std.proofs.Common.{◌≡◌, ℕ, ◌+◌, ◌-◌, ◌*◌, ◌/◌, ◌%◌, ◌<◌, ◌≤◌, Bool, true, false, cond, not, ◌&&◌, eqb, ltb, leb, ◌⊎◌, List, Some, None, Option, sym, refl, ap, ◌∙◌, subst, ⊎_elim, add-mul, arith}
+use Rattle.std.proofs.Common.{◌≡◌, ℕ, ◌+◌, ◌-◌, ◌*◌, ◌/◌, ◌%◌, ◌<◌, ◌≤◌, true, cond, ◌&&◌, leb, List, Some, None, refl, ap, ◌∙◌, add-mul, arith}
 use Rattle.std.proofs.lemmas.Nat.{mul-add-lt, div-mul-add, mod-mul-add}
-use Rattle.std.proofs.lemmas.Bool.{le-leb, ltb-true, lt-ltb, and_from, and_right}
+use Rattle.std.proofs.lemmas.Bool.{le-leb, and_from}
 use Rattle.block.specs.declared.cells.Side.{Side}
 use Rattle.block.specs.declared.cells.Side.TheVariants.{North, East, South, West}
-use Rattle.block.specs.Layout.{width, height, cell_count, cell_at, row_of, column_of, order_of, slot_of, cell_of, ordered, side_of, opened, inside, neighbour, street_from, filled, street_at, block_graph}
+use Rattle.block.specs.Layout.{width, height, cell_count, cell_at, row_of, column_of, order_of, slot_of, cell_of, ordered, side_of, opened, neighbour, street_from, filled, block_graph}
 use Rattle.block.specs.Refusal.{refusal}
 use Rattle.block.specs.Laws.{street_none}
 use Rattle.block.specs.Meaning.{junction_at, Beside, Says}

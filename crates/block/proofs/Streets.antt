@@ -1,7 +1,7 @@
 -- Streets of a block by their slots: a street leaves the cell of its slot.
-use Rattle.std.proofs.Common.{◌≡◌, ℕ, ◌+◌, ◌*◌, ◌<◌, ◌≤◌, Bool, true, false, cond, List, Some, None, Option, refl, ap, ◌∙◌, arith}
+use Rattle.std.proofs.Common.{◌≡◌, ℕ, ◌+◌, ◌*◌, ◌<◌, ◌≤◌, Bool, true, false, cond, List, Some, None, refl, ap, ◌∙◌, arith}
 use Rattle.maps.specs.Graph.{Street, Leaves, tail_of, head_of, Enters}
-use Rattle.block.specs.Layout.{cell_count, cell_of, side_of, street_from, filled, street_at, block_graph}
+use Rattle.block.specs.Layout.{cell_count, cell_of, side_of, street_from, filled, block_graph}
 use Rattle.block.specs.Laws.{filled_parts}
 
 tail_if : (b : Bool) (x : Street) (v : ℕ) → 0 < v → tail_of (cond b (Some x) None) ≡ v → (b ≡ true) × (x.0 ≡ v)

@@ -1,10 +1,10 @@
 -- What bytes that are accepted as a block have: the frame, and no open side at the edge; their map is lawful.
-use Rattle.std.specs.Prelude.{◌≡◌, ℕ, ◌+◌, ◌-◌, ◌*◌, ◌/◌, ◌<◌, ◌≤◌, Bool, true, false, cond, not, ◌&&◌, ◌||◌, List, length, Some, None, Option, ◌==◌, nat_le, nat_lt, refl}
-use Rattle.std.proofs.Common.{sym, ap, ◌∙◌, ⊎_elim, mul_comm, add-mul, div-le_self, mul-pos, arith}
+use Rattle.std.specs.Prelude.{◌≡◌, ℕ, ◌+◌, ◌-◌, ◌*◌, ◌<◌, ◌≤◌, true, false, cond, not, ◌&&◌, ◌||◌, List, length, Some, None, ◌==◌, nat_le, nat_lt, refl}
+use Rattle.std.proofs.Common.{ap, ⊎_elim, mul_comm, add-mul, div-le_self, mul-pos, arith}
 use Rattle.std.proofs.lemmas.Nat.{div-add-mod', mul-le, mul-add-lt, div_below, mod_below}
 use Rattle.std.proofs.lemmas.Bool.{leb-true, ltb-true, ltb-false, eqb-false, not-false, lt-leb, and_parts, and_cases, and_left, and_right, or_parts, both_ways}
 use Rattle.maps.specs.Graph.{Placed, LawfulMap}
-use Rattle.formats.specs.Bytes.{byte_at, Bytes}
+use Rattle.formats.specs.Bytes.{byte_at}
 use Rattle.formats.proofs.Scans.{lowest_in_none}
 use Rattle.formats.proofs.Verdicts.{past, equal, placed_if}
 use Rattle.block.specs.declared.cells.Side.{Side}

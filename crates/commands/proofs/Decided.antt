@@ -1,12 +1,12 @@
 -- What `decided` gives is what the line stands for.
-use Rattle.std.proofs.Common.{◌≡◌, ℕ, suc, ◌+◌, ◌<◌, ◌≤◌, min, Bool, true, false, cond, eqb, leb, List, [], ◌∷◌, ◌++◌, map, length, Ok, Err, Result, sym, refl, ap, ◌∙◌, subst, inl, inr, arith, eqb-true, leb-false, leb-true}
+use Rattle.std.proofs.Common.{◌≡◌, ℕ, suc, ◌<◌, ◌≤◌, Bool, true, false, cond, eqb, leb, List, [], ◌∷◌, map, length, Ok, Err, Result, sym, refl, ap, ◌∙◌, subst, inl, inr, arith, eqb-true, leb-false, leb-true}
 use borrow.Author.Tests.{eqb-false}
 use Rattle.std.specs.List.{AllByRecursion as All}
 use Rattle.calls.specs.declared.Call.{Call}
 use Rattle.calls.specs.declared.Call.TheVariants.{Name, Build, Close, Reopen, Ask, Tally, Replan}
-use Rattle.commands.specs.Numbers.{IsNumeral, value_of, capped}
+use Rattle.commands.specs.Numbers.{IsNumeral, value_of}
 use Rattle.commands.specs.Parts.{Valued}
-use Rattle.commands.specs.Grammar.{letter_of, numbers_of, spaced, Spells, AllSmall, FirstLarge}
+use Rattle.commands.specs.Grammar.{letter_of, numbers_of, spaced, Spells}
 use Rattle.commands.specs.Outcome.{Outcome}
 use Rattle.commands.specs.Reading.{Follow, small_of, call_one, call_two, decided}
 use Rattle.commands.specs.declared.tokens.Numeral.{Numeral}

@@ -1,8 +1,8 @@
 -- The first line of a text and the others.
-use Rattle.std.proofs.Common.{◌≡◌, ℕ, suc, ◌+◌, ◌-◌, ◌<◌, ◌≤◌, Bool, true, false, cond, not, eqb, List, [], ◌∷◌, ◌++◌, length, take, drop, sym, refl, ap, ◌∙◌, subst, inl, inr, add-one, one-add, arith, length-drop, length-take, true-eqb}
+use Rattle.std.proofs.Common.{◌≡◌, ℕ, suc, ◌+◌, ◌-◌, ◌<◌, ◌≤◌, Bool, true, false, cond, not, eqb, List, [], ◌∷◌, ◌++◌, length, take, drop, sym, refl, ap, subst, inl, inr, add-one, one-add, arith, length-drop, length-take, true-eqb}
 use Rattle.std.proofs.lemmas.List.{take_all, drop_all}
 use Rattle.std.proofs.lemmas.Slice.{between_to_end}
-use Rattle.commands.specs.Text.{onto, lines_of, before, FirstLine, Parted}
+use Rattle.commands.specs.Text.{onto, lines_of, before, FirstLine, CutAtEnd}
 
 -- the first line has n bytes, and its end is left out
 abbrev Splits : List ℕ → ℕ → Type 0
@@ -41,8 +41,8 @@ module _ (bs : List ℕ) (n : ℕ) (is : n ≡ before 10 bs) (some : 0 < length 
         less = simp (length-take, length-drop) (omega arith);
       }
 
-  pub parted_with_end : n < length bs → Parted bs (take (n - 0) bs) (take (length bs - (n + 1)) (drop (n + 1) bs))
-  parted_with_end inside =
+  pub cut_with_end : n < length bs → CutAtEnd bs (take (n - 0) bs) (take (length bs - (n + 1)) (drop (n + 1) bs))
+  cut_with_end inside =
       let e : n - 0 ≡ n = omega arith in
       inl (rw (e, between_to_end bs (n + 1) (length bs) (omega arith), add-one n) (subst (λ k. bs ≡ take k bs ++ (10 ∷ drop (suc k) bs)) (sym is) (parts bs (omega arith))))
 
@@ -54,5 +54,5 @@ module _ (bs : List ℕ) (n : ℕ) (is : n ≡ before 10 bs) (some : 0 < length 
     less = simp (length-take, length-drop) (omega arith);
   }
 
-  pub parted_without_end : length bs ≤ n → Parted bs bs (take (length bs - n) (drop n bs))
-  parted_without_end out = inr (refl, rw (between_to_end bs n (length bs) (omega arith)) (drop_all n bs out))
+  pub cut_without_end : length bs ≤ n → CutAtEnd bs bs (take (length bs - n) (drop n bs))
+  cut_without_end out = inr (refl, rw (between_to_end bs n (length bs) (omega arith)) (drop_all n bs out))

@@ -1,9 +1,9 @@
 -- The first token of a line that spells a call is the call's letter.
-use Rattle.std.proofs.Common.{◌≡◌, ℕ, ◌<◌, true, false, List, [], ◌∷◌, ◌++◌, length, get_or, Err, Result, sym, refl, ap, ◌∙◌, subst, arith}
+use Rattle.std.proofs.Common.{◌≡◌, ℕ, true, false, List, [], ◌∷◌, ◌++◌, length, get_or, Err, Result, sym, refl, ap, ◌∙◌, subst, arith}
 use Rattle.calls.specs.declared.Call.{Call}
 use Rattle.calls.specs.declared.Call.TheVariants.{Name, Build, Close, Reopen, Ask, Tally, Replan}
 use Rattle.commands.specs.Numbers.{is_digit, IsNumeral}
-use Rattle.commands.specs.Parts.{Spaceless, Stops, Front, bytes_of}
+use Rattle.commands.specs.Parts.{Spaceless, Front, bytes_of}
 use Rattle.commands.specs.Grammar.{letter_of, spaced, Spells}
 use Rattle.commands.specs.Outcome.{Outcome}
 use Rattle.commands.specs.Reading.{Follow, decided}

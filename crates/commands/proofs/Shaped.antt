@@ -1,5 +1,5 @@
 -- The lines of a text are the parts between its line ends.
-use Rattle.std.proofs.Common.{◌≡◌, ℕ, Bool, true, false, cond, not, eqb, List, [], ◌∷◌, ◌++◌, sym, refl, ap, ◌∙◌, subst, append_assoc, arith, eqb-true}
+use Rattle.std.proofs.Common.{◌≡◌, ℕ, Bool, true, false, cond, not, eqb, List, [], ◌∷◌, ◌++◌, refl, ap, ◌∙◌, append_assoc, arith, eqb-true}
 use Rattle.std.specs.List.{AllByRecursion as All}
 use Rattle.commands.specs.Text.{onto, lines_of, differs, Endless, ended, last_line, LinesStand}
 

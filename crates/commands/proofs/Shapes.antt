@@ -1,9 +1,9 @@
 -- The numbers of a line, read one by one.
-use Rattle.std.proofs.Common.{◌≡◌, ℕ, suc, ◌+◌, ◌<◌, ◌≤◌, Bool, true, false, eqb, List, [], ◌∷◌, ◌++◌, length, sym, refl, ap, ◌∙◌, subst, arith}
+use Rattle.std.proofs.Common.{◌≡◌, ℕ, suc, ◌≤◌, true, List, [], ◌∷◌, ◌++◌, length, sym, refl, ap, ◌∙◌, arith}
 use Rattle.std.specs.List.{AllByRecursion as All}
 use Rattle.std.proofs.ByRecursion.{All-weaker}
 use Rattle.std.proofs.lemmas.Bool.Decides.{nat_tests}
-use Rattle.commands.specs.Text.{differs, before}
+use Rattle.commands.specs.Text.{differs}
 use Rattle.commands.specs.Numbers.{is_digit, IsNumeral}
 use Rattle.commands.specs.Parts.{Spaceless, Stops}
 use Rattle.commands.specs.Grammar.{spaced}

@@ -1,10 +1,10 @@
 -- A line spells one call, with one list of numbers; so each answer is given on its condition.
-use Rattle.std.proofs.Common.{◌≡◌, ℕ, ◌+◌, ◌<◌, ◌≤◌, cond, eqb, ◌⊎◌, List, [], ◌∷◌, ◌++◌, map, length, get_or, Ok, Err, Result, sym, refl, ap, ◌∙◌, subst, inl, inr, arith, length-append}
+use Rattle.std.proofs.Common.{◌≡◌, ℕ, ◌≤◌, cond, eqb, List, [], ◌∷◌, map, length, get_or, Ok, Err, Result, sym, refl, ap, ◌∙◌, subst, inl, inr, arith, length-append}
 use Rattle.calls.specs.declared.Call.{Call}
 use Rattle.calls.specs.declared.Call.TheVariants.{Name, Build, Close, Reopen, Ask, Tally, Replan}
 use Rattle.commands.specs.Numbers.{value_of}
-use Rattle.commands.specs.Grammar.{letter_of, numbers_of, spaced, Spells, AllSmall, FirstLarge}
-use Rattle.commands.specs.Outcome.{Outcome, RefusedLarge, Exact, Within, OneReading}
+use Rattle.commands.specs.Grammar.{letter_of, numbers_of, spaced, AllSmall, FirstLarge}
+use Rattle.commands.specs.Outcome.{Outcome, Exact, Within, OneReading}
 use Rattle.commands.specs.declared.command.LineFault.{LineFault}
 use Rattle.commands.specs.declared.command.LineFault.TheVariants.{NoForm, TooLarge}
 use Rattle.commands.proofs.Shapes.{spaced_same, head, tail}

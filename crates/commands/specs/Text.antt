@@ -46,5 +46,5 @@ pub record FirstLine (text line rest : List ℕ) : Type 0 where
   pub less : length rest < length text
 
 -- the line's end stands between the line and the rest, or the line is all of the text
-abbrev pub Parted : List ℕ → List ℕ → List ℕ → Type 0
-Parted text line rest = (text ≡ line ++ (10 ∷ rest)) ⊎ ((text ≡ line) × (rest ≡ []))
+abbrev pub CutAtEnd : List ℕ → List ℕ → List ℕ → Type 0
+CutAtEnd text line rest = (text ≡ line ++ (10 ∷ rest)) ⊎ ((text ≡ line) × (rest ≡ []))

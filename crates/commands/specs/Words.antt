@@ -1,5 +1,5 @@
 -- The words of the first line, and when a text is refused.
-use Rattle.std.specs.Prelude.{◌≡◌, ℕ, ◌<◌, ◌≤◌, ◌⊎◌, List, [], ◌∷◌, ◌++◌, length, Some, None, codes, Option, ◌≢◌}
+use Rattle.std.specs.Prelude.{◌≡◌, ℕ, ◌<◌, ◌≤◌, List, ◌∷◌, length, Some, None, codes, Option, ◌≢◌}
 use Rattle.commands.specs.Text.{lines_of}
 use Rattle.commands.specs.declared.opening.KindWord.{KindWord}
 use Rattle.commands.specs.declared.opening.KindWord.TheVariants.{Paces, Gates}

@@ -1,6 +1,6 @@
 // The lines of a text, one after another.
 ghost use Rattle.std.specs.Prelude.{◌≡◌, ◌<◌, [], length, IfSome, MatchOption};
-ghost use Rattle.commands.specs.Text.{lines_of, FirstLine, Parted, LinesStand};
+ghost use Rattle.commands.specs.Text.{lines_of, FirstLine, CutAtEnd, LinesStand};
 
 use crate::scan::length_before;
 
@@ -8,7 +8,7 @@ use crate::scan::length_before;
 fn split_line<'a>(text: &'a [u8]) -> (&'a [u8], &'a [u8])
     requires { 0 < length text.now }
     ensures first { FirstLine text.now result.0.now result.1.now }
-    ensures whole { Parted text.now result.0.now result.1.now }
+    ensures whole { CutAtEnd text.now result.0.now result.1.now }
 {
     let n = length_before(text, b'\n');
     if n < text.len() {
@@ -21,7 +21,7 @@ fn split_line<'a>(text: &'a [u8]) -> (&'a [u8], &'a [u8])
 // The first line, without its end, and the text after it; none if the text has no line.
 pub fn first_line<'a>(text: &'a [u8]) -> Option<(&'a [u8], &'a [u8])>
     ensures first { MatchOption result (lines_of text.now ≡ []) (λ p. FirstLine text.now p.0.now p.1.now) }
-    ensures whole { IfSome result (λ p. Parted text.now p.0.now p.1.now) }
+    ensures whole { IfSome result (λ p. CutAtEnd text.now p.0.now p.1.now) }
 {
     if text.is_empty() {
         return None;

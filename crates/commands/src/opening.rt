@@ -1,6 +1,6 @@
 // The opening of a text: its size, and the word of its first line.
 ghost use Rattle.std.specs.Prelude.{◌≡◌, IfOk, MatchResult};
-ghost use Rattle.commands.specs.Text.{Parted};
+ghost use Rattle.commands.specs.Text.{CutAtEnd};
 ghost use Rattle.commands.specs.Words.{word, Names, fault_number, Begins, Faulty};
 
 use crate::lines::first_line;
@@ -50,7 +50,7 @@ pub fn kind_of(line: &[u8]) -> Option<KindWord>
 // The kind that the first line names, and the text after that line.
 pub fn open_text<'a>(text: &'a [u8]) -> Result<(KindWord, &'a [u8]), TextFault>
     ensures opened { MatchResult result (λ p. Begins text.now p.0 p.1.now) (λ e. Faulty text.now e) }
-    ensures whole { IfOk result (λ p. Parted text.now (word p.0) p.1.now) }
+    ensures whole { IfOk result (λ p. CutAtEnd text.now (word p.0) p.1.now) }
 {
     if text.len() > LONGEST_TEXT {
         return Err(TextFault::TooLong);

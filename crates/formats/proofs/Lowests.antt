@@ -1,5 +1,5 @@
 -- Laws of the lowest number that has a property.
-use Rattle.std.proofs.Common.{◌≡◌, ℕ, ◌<◌, Some, None, Option, refl, ap, arith}
+use Rattle.std.proofs.Common.{◌≡◌, ℕ, Some, None, Option, refl, ap, arith}
 use native.Mathlib.Decide.{dec_lt}
 use Rattle.maps.specs.Graph.{Lowest, Here}
 

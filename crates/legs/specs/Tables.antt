@@ -1,5 +1,5 @@
 -- What a table of legs and the best lengths over it mean: node 0 is the start, nodes 1 to 16 are list positions, node 31 is the goal.
-use Rattle.std.specs.Prelude.{ℕ, ◌+◌, ◌*◌, Bool, true, false, cond, not, ◌&&◌, List, Some, None, Option, ◌==◌, nat_le, slice_index, slice_index_or}
+use Rattle.std.specs.Prelude.{ℕ, ◌+◌, ◌*◌, Bool, false, cond, not, ◌&&◌, List, Some, None, Option, ◌==◌, nat_le, slice_index, slice_index_or}
 use Rattle.walks.specs.Legs.{Legs, leg_between}
 use Rattle.legs.specs.declared.Reached.{Reached}
 use Rattle.legs.specs.declared.table.LegTable.{LegTable}

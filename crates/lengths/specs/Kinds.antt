@@ -1,5 +1,5 @@
 -- What a kind of length means: its zero, the join of two codes, and when one code is no worse than another.
-use Rattle.std.specs.Prelude.{◌≡◌, ℕ, ◌+◌, ◌-◌, ◌^◌, ◌<◌, ◌≤◌, min, Bool, true, false, leb, nat_le}
+use Rattle.std.specs.Prelude.{◌≡◌, ℕ, ◌+◌, ◌-◌, ◌^◌, ◌<◌, min, Bool, true, false, leb, nat_le}
 
 -- a length is stored as a code, a whole number below 2^64
 abbrev pub Code : ℕ → Type 0

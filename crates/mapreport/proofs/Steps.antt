@@ -1,5 +1,5 @@
 -- The text of a map: its first line, one slot more, and the text of a file that is accepted.
-use Rattle.std.proofs.Common.{◌≡◌, ℕ, suc, ◌+◌, ◌-◌, ◌<◌, true, false, cond, eqb, List, ◌++◌, is_some, Some, None, Option, sym, refl, ap, ◌∙◌, append_assoc, append-nil, arith}
+use Rattle.std.proofs.Common.{◌≡◌, ℕ, suc, ◌+◌, ◌-◌, ◌<◌, true, false, eqb, List, ◌++◌, is_some, Some, None, Option, sym, refl, ap, ◌∙◌, append_assoc, append-nil, arith}
 use Rattle.std.proofs.lemmas.Bool.{eq-eqb, cond-true}
 use Rattle.maps.specs.Graph.{Street, Graph}
 use Rattle.mapreport.specs.Report.{street_line, street_lines, one, street_count, head_line, map_text, file_text}

@@ -1,5 +1,5 @@
 -- The reversed view of a lawful map is lawful.
-use Rattle.std.specs.Prelude.{◌≡◌, ℕ, Some, None, Option}
+use Rattle.std.specs.Prelude.{ℕ, Some, None, Option}
 use Rattle.std.proofs.Common.{ap}
 use Rattle.maps.specs.Graph.{Street, Graph, Placed, LawfulMap, turned, reversed}
 

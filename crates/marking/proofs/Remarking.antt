@@ -1,5 +1,5 @@
 -- A street closed or reopened: the tables still fit, and the moment is the one after.
-use Rattle.std.proofs.Common.{◌≡◌, ℕ, ◌-◌, ◌<◌, ◌≤◌, Bool, true, false, cond, not, ◌⊎◌, List, length, get_or, set, is_some, Some, None, Option, sym, refl, ap, ◌∙◌, subst, ⊎_elim, arith}
+use Rattle.std.proofs.Common.{◌≡◌, ℕ, ◌-◌, ◌<◌, ◌≤◌, Bool, true, false, not, List, length, get_or, set, is_some, Some, None, Option, sym, refl, ap, ◌∙◌, subst, ⊎_elim, arith}
 use native.Mathlib.Decide.{dec_le}
 use Rattle.std.specs.List.{AllByRecursion as All}
 use Rattle.std.proofs.ByRecursion.{All-from_get_or}
@@ -10,7 +10,7 @@ use Rattle.walks.specs.Streets.{member}
 use Rattle.walks.specs.Trees.{Holds}
 use Rattle.walks.proofs.Runs.{lawful_is_coded}
 use Rattle.asks.specs.Held.{bit, closed_held, marked}
-use Rattle.asks.specs.Index.{node_at, tree_at, positions, Rising}
+use Rattle.asks.specs.Index.{node_at, tree_at, Rising}
 use Rattle.asks.specs.Claims.{NumberFollows}
 use Rattle.asks.proofs.Handing.{node_on_map}
 use Rattle.asks.proofs.Numbers.{closed_held_le, number_follows_marks}
@@ -24,7 +24,6 @@ use Rattle.calls.specs.Moments.{close_fault, reopen_fault, unless, with_mark, af
 use Rattle.calls.specs.declared.Call.TheVariants.{Close, Reopen}
 use Rattle.calls.specs.declared.Fault.TheVariants.{AlreadyClosed}
 use Rattle.tables.specs.declared.Tables.{Tables}
-use Rattle.tables.specs.declared.Holders.{Holders}
 use Rattle.tables.specs.declared.TreeRecord.{TreeRecord}
 use Rattle.tables.specs.Tables.{transit_of, closed_of, moment_of, no_record, no_holders, count_in, holders_in}
 use Rattle.marking.specs.Marking.{Raised, Within}

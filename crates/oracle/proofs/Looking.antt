@@ -6,7 +6,7 @@ use Rattle.std.proofs.lemmas.Bool.{cond-false, cases_Bool}
 use Rattle.maps.specs.Graph.{Graph, LawfulMap}
 use Rattle.lengths.specs.Kinds.{Kind}
 use Rattle.asks.specs.Handed.{is_position}
-use Rattle.asks.specs.Index.{tree_at, positions}
+use Rattle.asks.specs.Index.{tree_at}
 use Rattle.asks.proofs.Building.{positions_absent}
 use Rattle.asks.proofs.Handing.{position_is}
 use Rattle.walks.specs.Runs.{Table}

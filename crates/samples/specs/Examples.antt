@@ -1,6 +1,5 @@
 -- Examples of the two map formats: what the definitions of layout, refusal and links give on bytes that are written out.
-use Rattle.std.specs.Prelude.{◌≡◌, ℕ, List, [], ◌∷◌, ◌++◌, Some, None, Option}
-use Rattle.maps.specs.Graph.{Graph}
+use Rattle.std.specs.Prelude.{◌≡◌, ℕ, List, [], ◌∷◌, ◌++◌, Some, None}
 use Rattle.sheet.specs.declared.records.Chain.TheVariants.{Leaving, Entering}
 use Rattle.sheet.specs.Layout.{sheet_graph}
 use Rattle.sheet.specs.Chains.{first_link, next_link, lowest_on}

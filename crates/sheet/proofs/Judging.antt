@@ -1,12 +1,12 @@
 -- The number of a refusal means what the layout says.
-use Rattle.std.proofs.Common.{◌≡◌, ℕ, ◌<◌, ◌≤◌, Bool, true, false, cond, not, ◌||◌, eqb, ltb, List, length, sym, ap, ◌∙◌, ⊎_elim, arith}
+use Rattle.std.proofs.Common.{◌≡◌, ℕ, true, false, cond, not, ◌||◌, eqb, ltb, List, length, sym, ap, ◌∙◌, ⊎_elim, arith}
 use Rattle.std.proofs.lemmas.Bool.{lt-ltb, ltb-true, ltb-false, eqb-true, eqb-false, eq-eqb, ne_eqb, le-ltb, or_from, cond-true, cond-false, cond_both, cases_Bool, both_ways}
 use Rattle.formats.specs.Bytes.{byte_at}
 use Rattle.formats.proofs.Verdicts.{pass, equal, unequal, agree, differ}
 use Rattle.sheet.specs.Layout.{junction_count, slot_count, sheet_length, tail_at}
 use Rattle.sheet.specs.Refusal.{bad_record, bad_link, out_of_range, refusal}
 use Rattle.sheet.specs.Laws.{in_range}
-use Rattle.sheet.specs.Meaning.{InRange, FirstWrong, Frame, Linked, AllRight, Judged, short, other, ranged, inexact, unempty, unended, unlinked, admitted}
+use Rattle.sheet.specs.Meaning.{InRange, FirstWrong, Frame, Judged, short, other, ranged, inexact, unempty, unended, unlinked, admitted}
 use Rattle.sheet.proofs.Links.{linked, linked_none}
 use Rattle.sheet.proofs.Streets.{first_wrong, wrong_first, all_right, none_wrong}
 

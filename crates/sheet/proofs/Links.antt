@@ -1,9 +1,9 @@
 -- What the links of a sheet say: the test of a chain and its fact, and that no link is wrong exactly if the sheet is linked.
-use Rattle.std.proofs.Common.{◌≡◌, ℕ, zero, suc, ◌+◌, ◌-◌, ◌<◌, ◌≤◌, Bool, true, false, cond, not, ◌&&◌, ◌||◌, eqb, ltb, leb, List, Some, None, Option, sym, refl, ap, ◌∙◌, subst, arith}
+use Rattle.std.proofs.Common.{◌≡◌, ℕ, zero, suc, ◌+◌, ◌-◌, ◌<◌, ◌≤◌, true, false, eqb, ltb, leb, List, Some, None, Option, sym, refl, ap, ◌∙◌, subst, arith}
 use native.Mathlib.Decide.{dec_le}
 use Rattle.std.proofs.lemmas.Bool.{eqb-true, ltb-true, eq-eqb, lt-ltb, ne_eqb, and_parts, and_from, and_left, and_right, le-ltb, or_parts, not-false, cond-true, cond-false, le-leb, lt-leb, or_from, both_ways, not_from_true}
 use Rattle.maps.specs.Graph.{Street, Graph, Lowest, LawfulMap, Placed}
-use Rattle.formats.specs.Scan.{optional, lowest_in}
+use Rattle.formats.specs.Scan.{optional}
 use Rattle.formats.proofs.Lowests.{lowest_map, lowest_unique}
 use Rattle.formats.proofs.Scans.{lowest_in_of_all, lowest_in_none, lowest_in_found}
 use Rattle.sheet.specs.declared.records.Chain.{Chain}

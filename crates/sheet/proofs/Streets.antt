@@ -1,5 +1,5 @@
 -- What the slot records of a sheet say: the test of a record and its fact, the lowest one at fault, and the streets.
-use Rattle.std.proofs.Common.{◌≡◌, ℕ, zero, suc, ◌+◌, ◌<◌, ◌≤◌, Bool, true, false, cond, not, ◌&&◌, ◌||◌, eqb, ltb, leb, ◌⊎◌, List, Some, None, Option, sym, refl, ap, ◌∙◌, inl, inr, ⊎_elim, add-zero, arith}
+use Rattle.std.proofs.Common.{◌≡◌, ℕ, zero, suc, ◌+◌, ◌<◌, Bool, true, false, cond, ◌&&◌, ◌||◌, eqb, ltb, leb, List, Some, None, sym, refl, ap, ◌∙◌, inl, inr, ⊎_elim, add-zero, arith}
 use native.Mathlib.Decide.{ℕ_discrete}
 use Rattle.std.proofs.lemmas.Bool.{cases_order, eqb-true, eq-eqb, ne_eqb, le-ltb, le-leb, not-false, not_from_true, not_from_false, and_parts, and_from, and_right, or_from, cond-true, cond-false, cases_Bool, both_ways}
 use Rattle.formats.specs.Bytes.{byte_at}

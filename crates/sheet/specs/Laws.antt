@@ -1,10 +1,9 @@
 -- What bytes that are accepted as a sheet have: the frame, right records and right links; their map is lawful.
-use Rattle.std.specs.Prelude.{◌≡◌, ℕ, ◌+◌, ◌^◌, ◌<◌, ◌≤◌, Bool, true, false, cond, not, ◌&&◌, ◌||◌, ltb, List, length, Some, None, Option, ◌==◌, nat_le, nat_lt, refl}
+use Rattle.std.specs.Prelude.{◌≡◌, ℕ, ◌+◌, ◌^◌, ◌<◌, ◌≤◌, Bool, true, false, cond, not, ◌&&◌, ◌||◌, ltb, List, length, Some, None, ◌==◌, nat_le, nat_lt, refl}
 use Rattle.std.proofs.Common.{sym, ap, ◌∙◌, arith}
 use Rattle.std.proofs.lemmas.Bool.{leb-true, ltb-false, eqb-false, not-true, lt-leb, and_parts, and_left, and_right, or_parts, cond-false}
-use Rattle.maps.specs.Graph.{Street, Placed, LawfulMap}
+use Rattle.maps.specs.Graph.{Placed, LawfulMap}
 use Rattle.formats.specs.Bytes.{byte_at, four_at, Bytes}
-use Rattle.formats.specs.Scan.{lowest_in}
 use Rattle.formats.proofs.Scans.{lowest_in_none}
 use Rattle.formats.proofs.Verdicts.{past, equal, placed_if}
 use Rattle.sheet.specs.Layout.{junction_count, slot_count, sheet_length, slot_record, tail_at, head_at, length_at, filled, street_at, sheet_graph}

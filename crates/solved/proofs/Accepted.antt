@@ -1,8 +1,8 @@
 -- A file that is judged so by the test is: its map is lawful where it is accepted, and is the one that the bytes say.
-use Rattle.std.proofs.Common.{◌≡◌, ℕ, zero, suc, ◌^◌, ◌<◌, Bool, true, ◌&&◌, eqb, ltb, List, [], ◌∷◌, subst, arith}
+use Rattle.std.proofs.Common.{◌≡◌, ℕ, zero, suc, true, eqb, ltb, List, [], ◌∷◌, subst, arith}
 use Rattle.std.proofs.lemmas.Bool.{and_parts, eqb-true, ltb-true}
 use Rattle.maps.specs.Graph.{LawfulMap}
-use Rattle.formats.specs.Bytes.{byte_at, Bytes}
+use Rattle.formats.specs.Bytes.{Bytes}
 use Rattle.sheet.specs.Laws.{sheet_lawful}
 use Rattle.sheet.specs.Meaning as sheet
 use Rattle.sheet.proofs.Judging as sheet-judging

@@ -1,7 +1,6 @@
 -- An example that passes its test stands.
-use Rattle.std.proofs.Common.{◌≡◌, ℕ, Bool, true, false, cond, ◌&&◌, eqb, List, [], ◌∷◌, length, Some, None, Ok, Err, Option, sym, refl, ◌∙◌, subst}
+use Rattle.std.proofs.Common.{◌≡◌, ℕ, Bool, true, false, cond, ◌&&◌, eqb, List, [], ◌∷◌, Some, None, Ok, Err, Option, refl, subst}
 use Rattle.std.specs.List.{AllByRecursion as All}
-use Rattle.std.specs.Str.{bytes_eq}
 use Rattle.std.proofs.lemmas.Slice.Eq.{bytes_eq-Decides}
 use Rattle.std.proofs.lemmas.Bool.{and_parts, eqb-true, false≢true}
 use Rattle.maps.specs.Graph.{Graph, LawfulMap}
@@ -26,10 +25,9 @@ use Rattle.calls.specs.declared.Fault.{Fault}
 use Rattle.calls.specs.declared.Fault.TheVariants.{StateLacks}
 use Rattle.calls.specs.declared.Call.{Call}
 use Rattle.calls.specs.declared.Call.TheVariants.{Name, Build, Close, Reopen, Ask, Tally, Replan}
-use Rattle.calls.specs.declared.Answer.{Answer}
 use Rattle.calls.specs.declared.Answer.TheVariants.{Refused}
 use Rattle.calls.proofs.Fitting.{fits_after, fits_created, lives_fit, zero_open}
-use Rattle.solved.specs.Rows.{File, map_of, Says, Measure, in_paces, in_gates, kind_of, calls_of, answers_of, Row, refused, says, settles, holds, kept, indexed, stored, handed, asked, lived, file_of, number_of, Asked, OfMap, Stands}
+use Rattle.solved.specs.Rows.{map_of, Says, Measure, in_paces, in_gates, kind_of, calls_of, answers_of, Row, refused, says, settles, holds, kept, indexed, stored, handed, asked, lived, file_of, number_of, Asked, OfMap, Stands}
 use Rattle.solved.proofs.Same.{same_length_lem, same_entry_lem, same_length, same_answers_lem}
 use Rattle.solved.proofs.Tested.{every, is_judged, redone_by, is_none, asked_so, ask_answer, answer_to, answers_to, tests_map, test}
 use Rattle.solved.proofs.Accepted.{judged_so, lawful_map, says_own}

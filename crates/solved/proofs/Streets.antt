@@ -1,6 +1,6 @@
 -- A map whose slots answer as listed is the map that is written so; and a tree holds just the slots that the test finds.
 use Rattle.std.proofs.Common.{◌≡◌, ℕ, zero, suc, ◌+◌, ◌<◌, ◌≤◌, Bool, true, false, not, ◌&&◌, ◌||◌, eqb, List, [], ◌∷◌, length, Some, None, Option, sym, refl, ap, ◌∙◌, ⊎_elim, arith}
-use Rattle.std.proofs.lemmas.Bool.{and_parts, eqb-true, eq-eqb, both_ways, or_cases, cases_lt, not-true}
+use Rattle.std.proofs.lemmas.Bool.{and_parts, eqb-true, both_ways, or_cases, cases_lt, not-true}
 use Rattle.std.specs.List.{range_with_len}
 use Rattle.maps.specs.Graph.{Street, Graph, LawfulMap}
 use Rattle.walks.specs.Streets.{Streets, member, Coded}

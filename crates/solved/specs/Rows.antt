@@ -1,5 +1,5 @@
 -- The forms of a solved example, and what an example of each form says, in the relations that the contracts of the code cite.
-use Rattle.std.specs.Prelude.{◌≡◌, ℕ, zero, suc, Bool, true, List, [], ◌∷◌, map, length, Some, None, Option}
+use Rattle.std.specs.Prelude.{◌≡◌, ℕ, zero, suc, true, List, [], ◌∷◌, map, length, Some, None, Option}
 use Rattle.maps.specs.Graph.{Street, Graph}
 use Rattle.sheet.specs.Layout.{sheet_graph}
 use Rattle.sheet.specs.Meaning as sheet

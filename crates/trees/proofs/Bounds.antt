@@ -1,10 +1,10 @@
 -- The streets that one junction has in a bounded run.
-use Rattle.std.proofs.Common.{◌≡◌, ℕ, zero, suc, Bool, true, false, cond, not, ◌||◌, eqb, List, [], ◌∷◌, is_some, Some, None, Option, sym, refl, ap, ◌∙◌, ⊎_elim, arith}
+use Rattle.std.proofs.Common.{◌≡◌, ℕ, zero, suc, Bool, true, false, cond, not, ◌||◌, eqb, List, ◌∷◌, is_some, Some, None, Option, sym, refl, ap, ◌∙◌, ⊎_elim, arith}
 use mathlib.Core.Path.{fun_ext}
 use Rattle.std.proofs.lemmas.Bool.{cases_eq, ne_eqb}
 use Rattle.maps.specs.Graph.{Street, Graph, LawfulMap}
 use Rattle.lengths.specs.Kinds.{Kind}
-use Rattle.walks.specs.Streets.{Streets, member, omit_if, without, bounded_to, bounded_at, run_streets, CodedStreets}
+use Rattle.walks.specs.Streets.{Streets, omit_if, bounded_to, bounded_at, CodedStreets}
 use Rattle.walks.specs.Runs.{Entry, Table}
 use Rattle.walks.proofs.Facts.{same_some, none≢some}
 use Rattle.walks.proofs.Filters.{run_sub, run_coded}

@@ -1,5 +1,5 @@
 -- What the candidates held keep while a run is underway.
-use Rattle.std.proofs.Common.{◌≡◌, ℕ, zero, suc, ◌+◌, ◌-◌, ◌<◌, ◌≤◌, Bool, true, false, cond, eqb, ◌⊎◌, List, [], ◌∷◌, length, get_or, is_some, Some, None, Option, sym, refl, ap, ◌∙◌, subst, inl, inr, ⊎_elim, arith}
+use Rattle.std.proofs.Common.{◌≡◌, ℕ, zero, suc, ◌+◌, ◌<◌, ◌≤◌, Bool, true, false, cond, eqb, ◌⊎◌, List, [], ◌∷◌, length, is_some, Some, None, Option, sym, refl, ap, ◌∙◌, subst, inl, inr, ⊎_elim, arith}
 use Rattle.std.proofs.lemmas.Bool.{cases_eq, cases_Bool, eq-eqb, eqb-true, ne_eqb}
 use Rattle.std.proofs.lemmas.Map.{update_here, update_apart}
 use Rattle.std.proofs.ByRecursion.{all-has, has_shuffled}
@@ -12,11 +12,10 @@ use Rattle.walks.specs.Streets.{Streets, omit_if, CodedStreets}
 use Rattle.walks.specs.Runs.{Entry, Table, candidate_at, settle, first_table, table_after}
 use Rattle.walks.specs.Runs.{Candidate as Looked}
 use Rattle.walks.proofs.Facts.{none≢some, same_some, le_more}
-use Rattle.walks.proofs.Bests.{Best, Beats, best_unique}
+use Rattle.walks.proofs.Bests.{Best, best_unique}
 use Rattle.walks.proofs.Candidates.{candidate_is, candidate_made, settled_cases, was_unsettled}
 use Rattle.walks.proofs.Ends.{best_here, invariant_after, end_one, step_by}
 use Rattle.entries.specs.declared.Candidate.{Candidate}
-use Rattle.entries.specs.Orders.{ranked}
 use Rattle.entries.specs.Records.{candidate, CandidateAhead}
 use Rattle.entries.specs.Ranking.{both_codes, ranked_self}
 use Rattle.trees.specs.Candidates.{if_leaves, leaving, if_unsettled, unsettled_heads, with_street, with_streets, one_if_unsettled, unsettled_tail, unsettled_tails, Underway}

@@ -1,14 +1,13 @@
 -- The streets that leave a junction, met one after another by first and next leaving.
-use Rattle.std.proofs.Common.{◌≡◌, ℕ, zero, suc, ◌+◌, ◌-◌, ◌<◌, ◌≤◌, Bool, true, false, cond, eqb, ◌⊎◌, List, [], ◌∷◌, length, is_some, Some, None, Option, sym, refl, ap, ◌∙◌, subst, inl, inr, ⊎_elim, arith}
+use Rattle.std.proofs.Common.{◌≡◌, ℕ, suc, ◌-◌, ◌<◌, ◌≤◌, Bool, true, false, List, length, is_some, Some, None, Option, sym, refl, ap, ◌∙◌, subst, ⊎_elim, arith}
 use native.Mathlib.Decide.{le_ind}
 use Rattle.std.proofs.lemmas.Bool.{cases_lt, eq-eqb, ne_eqb}
 use Rattle.std.proofs.lemmas.List.Sorted.{IsPermutation-cons, IsPermutation-trans, length_permutation}
 use Rattle.std.specs.List.Sorted.{IsPermutation}
-use Rattle.maps.specs.Graph.{Street, Graph, Leaves, Here, Before, Lowest, LawfulMap, Placed, tail_of}
+use Rattle.maps.specs.Graph.{Street, Graph, Leaves, Lowest, LawfulMap, Placed, tail_of}
 use Rattle.lengths.specs.Kinds.{Kind}
 use Rattle.walks.specs.Streets.{Streets, omit_if, without}
 use Rattle.walks.specs.Runs.{Table}
-use Rattle.walks.proofs.Facts.{none≢some}
 use Rattle.entries.specs.declared.Candidate.{Candidate}
 use Rattle.trees.specs.Candidates.{if_leaves, leaving, if_unsettled, unsettled_heads, with_street, with_streets}
 

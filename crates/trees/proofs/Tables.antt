@@ -1,11 +1,11 @@
 -- A tree record read and written, and a list searched.
-use Rattle.std.proofs.Common.{◌≡◌, ℕ, zero, suc, ◌+◌, ◌-◌, ◌<◌, ◌≤◌, Bool, true, false, cond, ◌||◌, eqb, ◌⊎◌, List, [], ◌∷◌, length, get_or, set, replicate, is_some, Some, None, Option, sym, refl, ap, ◌∙◌, inl, inr, ⊎_elim, arith}
+use Rattle.std.proofs.Common.{◌≡◌, ℕ, zero, suc, ◌-◌, ◌<◌, ◌≤◌, Bool, true, false, cond, eqb, ◌⊎◌, List, [], ◌∷◌, length, get_or, set, replicate, is_some, Some, None, Option, sym, refl, ap, ◌∙◌, inl, inr, ⊎_elim, arith}
 use mathlib.Core.Path.{fun_ext}
 use Rattle.std.proofs.lemmas.Bool.{cases_eq, cases_lt, both_ways, or_right, or_left, eq-eqb, ne_eqb}
 use Rattle.std.proofs.lemmas.List.{get_or-set_same, get_or-set_other}
 use Rattle.std.proofs.lemmas.Map.{update_here, update_apart}
 use Rattle.walks.specs.Streets.{member}
-use Rattle.walks.specs.Runs.{Entry, Table, settle}
+use Rattle.walks.specs.Runs.{Entry, settle}
 use Rattle.trees.specs.declared.BoundedTree.{BoundedTree}
 use Rattle.trees.specs.Trees.{table_of}
 use Rattle.trees.proofs.Closed.{no_mark, get_d_past}

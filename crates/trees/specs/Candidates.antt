@@ -1,5 +1,5 @@
 -- The street candidates that are held while a run is underway.
-use Rattle.std.specs.Prelude.{◌≡◌, ℕ, zero, suc, ◌+◌, ◌≤◌, Bool, true, false, cond, List, [], ◌∷◌, length, is_some, Some, None, Option, ◌==◌}
+use Rattle.std.specs.Prelude.{◌≡◌, ℕ, zero, suc, ◌+◌, ◌≤◌, cond, List, ◌∷◌, length, is_some, Some, None, Option, ◌==◌}
 use Rattle.std.specs.List.{ContainsAt as Has}
 use Rattle.maps.specs.Graph.{Street}
 use Rattle.lengths.specs.Kinds.{Kind}

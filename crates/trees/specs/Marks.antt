@@ -1,5 +1,5 @@
 -- Which slots are closed, told by a list of marks.
-use Rattle.std.specs.Prelude.{ℕ, zero, suc, Bool, true, false, List, slice_index_or}
+use Rattle.std.specs.Prelude.{ℕ, zero, suc, Bool, false, List, slice_index_or}
 
 -- slot e is closed: its mark stands at e - 1; slot 0 is never closed
 abbrev pub closed_in : List Bool → ℕ → Bool

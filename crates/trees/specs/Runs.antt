@@ -1,5 +1,5 @@
 -- The bounded run from any root, on the map or off it.
-use Rattle.std.specs.Prelude.{ℕ, Bool, true, false, cond, ◌&&◌, List, Some, None, Option, nat_le, nat_lt}
+use Rattle.std.specs.Prelude.{ℕ, Bool, cond, ◌&&◌, List, None, nat_le, nat_lt}
 use Rattle.maps.specs.Graph.{Graph}
 use Rattle.lengths.specs.Kinds.{Kind}
 use Rattle.walks.specs.Runs.{Table, bounded_run}

@@ -1,6 +1,6 @@
 -- The table that a tree record holds.
-use Rattle.std.specs.Prelude.{ℕ, zero, suc, Bool, true, false, cond, Some, None, Option, slice_index, slice_index_or}
-use Rattle.walks.specs.Runs.{Entry, Table}
+use Rattle.std.specs.Prelude.{zero, suc, false, cond, Some, None, slice_index, slice_index_or}
+use Rattle.walks.specs.Runs.{Table}
 use Rattle.trees.specs.declared.BoundedTree.{BoundedTree}
 
 -- slot and length of each settled junction: those of junction v stand at v - 1

@@ -1,5 +1,5 @@
 -- The solved examples: the tables by computation, and the slots that they hold.
-use Rattle.std.proofs.Common.{◌≡◌, ℕ, ◌<◌, true, false, eqb, [], ◌∷◌, Some, None, refl, ap, ⊎_elim, arith, lit<}
+use Rattle.std.proofs.Common.{◌≡◌, ℕ, true, false, eqb, [], ◌∷◌, Some, None, refl, ap, ⊎_elim, arith, lit<}
 use Rattle.std.proofs.lemmas.Bool.{both_ways, eqb-true, or_cases}
 use Rattle.std.specs.Map.{update}
 use Rattle.lengths.specs.Kinds.{Kind, paces}

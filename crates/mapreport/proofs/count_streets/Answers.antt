@@ -1,4 +1,4 @@
-use Rattle.std.proofs.Common.{◌≡◌, is_some, sym, refl, ap, ◌∙◌, arith}
+use Rattle.std.proofs.Common.{is_some, sym, refl, ap, ◌∙◌, arith}
 use Rattle.mapreport.specs.Report.{street_count}
 use Rattle.mapreport.proofs.Steps.{one_street, no_street, count_more}
 use Rattle.mapreport.proofs.count_streets.Goals as goal

@@ -1,4 +1,4 @@
-use Rattle.std.proofs.Common.{◌≡◌, sym, ap, ◌∙◌, subst, arith}
+use Rattle.std.proofs.Common.{sym, ap, ◌∙◌, subst, arith}
 use Rattle.maps.specs.Graph.{Lowest}
 use Rattle.formats.specs.Scan.{optional}
 use Rattle.sheet.specs.Layout.{sheet_graph, street_at}

@@ -1,4 +1,4 @@
-use Rattle.std.proofs.Common.{cond, [], ◌∷◌, ◌++◌, take, sym, ap, ◌∙◌, arith}
+use Rattle.std.proofs.Common.{[], ◌∷◌, ◌++◌, sym, ap, ◌∙◌, arith}
 use Rattle.std.proofs.lemmas.List.{take_more_set}
 use Rattle.std.proofs.lemmas.Bool.{cond-true}
 use Rattle.tables.specs.Tables.{list_of}

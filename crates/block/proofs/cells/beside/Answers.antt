@@ -1,4 +1,4 @@
-use Rattle.std.proofs.Common.{◌≡◌, ◌+◌, ◌-◌, ◌<◌, ◌≤◌, sym, ap, subst, arith}
+use Rattle.std.proofs.Common.{◌≡◌, ◌+◌, ◌≤◌, sym, ap, subst, arith}
 use Rattle.block.specs.Layout.{width, cell_count, neighbour}
 use Rattle.block.specs.Laws.{neighbour_within}
 use Rattle.block.proofs.cells.beside.Goals as goal

@@ -1,4 +1,4 @@
-use Rattle.std.proofs.Common.{◌≡◌, ℕ, List, [], ◌∷◌, ◌++◌, sym, refl, ap, ◌∙◌, subst, arith, true-eqb, false-eqb}
+use Rattle.std.proofs.Common.{◌∷◌, ◌++◌, ap, ◌∙◌, true-eqb, false-eqb}
 use Rattle.commands.proofs.Shapes.{empty, no_first, no_end, no_more}
 use Rattle.commands.proofs.command.numbers_of.Goals as goal
 

@@ -1,5 +1,5 @@
 use Rattle.std.proofs.Common.{◌≡◌, ℕ, List, [], ◌∷◌, sym, ap, ◌∙◌, subst, arith}
-use Rattle.commands.specs.Text.{lines_of, Parted}
+use Rattle.commands.specs.Text.{lines_of, CutAtEnd}
 use Rattle.commands.proofs.opening.open_text.Goals as goal
 
 head : (x y : List ℕ) (xs ys : List (List ℕ)) → x ∷ xs ≡ y ∷ ys → x ≡ y
@@ -20,7 +20,7 @@ returns-in-Some-kind_of c =
         lines = first.lines ∙ ap (λ l. l ∷ lines_of c.in-Some.rest.now) c.in-Some-kind_of.ensures;
         less = first.less;
       };
-      whole = subst (λ l. Parted c.args.text.now l c.in-Some.rest.now) c.in-Some-kind_of.ensures c.in-Some.ensures.whole;
+      whole = subst (λ l. CutAtEnd c.args.text.now l c.in-Some.rest.now) c.in-Some-kind_of.ensures c.in-Some.ensures.whole;
     }
 
 pub returns-in-None : goal.returns-in-None

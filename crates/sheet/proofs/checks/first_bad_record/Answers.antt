@@ -1,4 +1,4 @@
-use Rattle.std.proofs.Common.{◌≡◌, ℕ, ◌+◌, ◌-◌, sym, refl, ap, ◌∙◌, arith}
+use Rattle.std.proofs.Common.{◌≡◌, ◌+◌, ◌-◌, sym, ap, ◌∙◌, arith}
 use Rattle.formats.specs.Scan.{lowest_in}
 use Rattle.formats.proofs.Scans.{lowest_in_past, lowest_in_hit, lowest_in_end}
 use Rattle.sheet.specs.Layout.{slot_count}

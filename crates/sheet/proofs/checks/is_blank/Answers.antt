@@ -1,4 +1,4 @@
-use Rattle.std.proofs.Common.{◌≡◌, ◌+◌, ◌&&◌, eqb, get_or, ap, add-one}
+use Rattle.std.proofs.Common.{◌+◌, ◌&&◌, eqb, get_or, ap, add-one}
 use Rattle.sheet.proofs.checks.is_blank.Goals as goal
 
 pub loop-i-preserved : goal.loop-i-preserved

@@ -1,5 +1,4 @@
-use Rattle.std.proofs.Common.{◌≡◌, ℕ, ◌+◌, ◌-◌, Bool, true, false, sym, refl, ap, ◌∙◌, arith}
-use Rattle.formats.specs.Scan.{lowest_in}
+use Rattle.std.proofs.Common.{◌≡◌, ◌+◌, ◌-◌, false, sym, ap, ◌∙◌, arith}
 use Rattle.formats.proofs.Scans.{lowest_in_past, lowest_in_hit, lowest_in_end}
 use Rattle.sheet.specs.Layout.{slot_count, sheet_graph}
 use Rattle.sheet.specs.Chains.{on_chain, lowest_on}

@@ -1,4 +1,4 @@
-use Rattle.std.proofs.Common.{◌≡◌, ◌+◌, ◌<◌, ◌≤◌, [], ◌∷◌, length, Some, None, sym, refl, ap, ◌∙◌, subst, arith}
+use Rattle.std.proofs.Common.{◌≡◌, [], length, Some, sym, refl, ap, ◌∙◌, subst, arith}
 use Rattle.std.specs.List.Sorted.{IsPermutation}
 use Rattle.std.proofs.ByRecursion.{all_shuffled}
 use Rattle.walks.specs.Runs.{Table, settle, first_table}
@@ -7,7 +7,7 @@ use Rattle.entries.specs.Records.{CandidateAhead}
 use Rattle.trees.specs.Trees.{table_of}
 use Rattle.trees.specs.Runs.{none_settled}
 use Rattle.trees.specs.Limited.{streets_within}
-use Rattle.trees.specs.Candidates.{leaving, unsettled_heads, with_streets, unsettled_tails, Underway}
+use Rattle.trees.specs.Candidates.{leaving, unsettled_heads, with_streets, Underway}
 use Rattle.trees.proofs.Bounds.{within_coded}
 use Rattle.trees.proofs.Candidates.{underway_first, underway_shuffled, underway_end, with_counted, tails_few}
 use Rattle.trees.proofs.run.run_within.Goals as goal

@@ -1,4 +1,4 @@
-use Rattle.std.proofs.Common.{◌≡◌, ℕ, ◌+◌, length}
+use Rattle.std.proofs.Common.{◌≡◌, ◌+◌, length}
 use Rattle.queue.specs.Queues.{held, room, Ordered}
 use Rattle.entries.specs.Records.{CandidateAhead}
 use Rattle.trees.specs.Trees.{table_of}

@@ -1,6 +1,6 @@
-use Rattle.std.proofs.Common.{◌≡◌, ◌+◌, ◌<◌, ◌≤◌, length, Some, None, sym, refl, ap, ◌∙◌, subst, arith}
+use Rattle.std.proofs.Common.{◌+◌, ◌≤◌, length, sym, refl, subst, arith}
 use Rattle.std.specs.List.Sorted.{IsPermutation}
-use Rattle.walks.specs.Runs.{Table, settle}
+use Rattle.walks.specs.Runs.{Table}
 use Rattle.queue.specs.Queues.{held}
 use Rattle.trees.specs.Trees.{table_of}
 use Rattle.trees.specs.Limited.{streets_within}

@@ -1,4 +1,4 @@
-use Rattle.std.proofs.Common.{Some, None, refl, arith}
+use Rattle.std.proofs.Common.{refl, arith}
 use Rattle.std.proofs.lemmas.Bool.{both_ways}
 use Rattle.legs.specs.Tables.{leg_of}
 use Rattle.legs.proofs.Cells.{codes_set, cell_few, cell_filled, cell_cleared}
