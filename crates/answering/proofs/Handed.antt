@@ -1,7 +1,7 @@
 -- The legs that an ask fills in are those that it has to hand on, and what a search over them finds.
 use Rattle.std.proofs.Common.{◌≡◌, ℕ, zero, suc, ◌+◌, ◌-◌, ◌<◌, ◌≤◌, Bool, true, false, cond, not, ◌&&◌, eqb, ltb, leb, ◌⊎◌, List, length, get_or, is_some, None, Option, sym, refl, ap, ◌∙◌, subst, inl, inr, ⊎_elim, arith}
 use Rattle.std.proofs.lemmas.Bool.{cases_eq, cases_Bool, eq-eqb, ne_eqb, eqb-true, eqb-false, and_from, and_left, and_right, and_parts, le-leb, lt-ltb, leb-true, not_from_false, cond-true, cond-false}
-use Rattle.std.specs.List.{AllByRecursion as All}
+use Rattle.std.specs.List.{AllByRecursion}
 use Rattle.maps.specs.Graph.{Graph, reversed}
 use Rattle.lengths.specs.Kinds.{Kind, LawfulKind}
 use Rattle.walks.specs.Streets.{empty_set, Coded}
@@ -131,7 +131,7 @@ passing_same q r (suc k) h =
     let y = ap bit (h (suc k) (omega arith) (omega arith)) in omega (arith, x, y)
 
 -- ---- all legs together
-module _ (K : Kind) (G : Graph) (ns : List ℕ) (on : All (OnMap G) ns) (few : length ns ≤ 16) (F : ℕ → Bool) (s t : ℕ) (rs : List TreeRecord)
+module _ (K : Kind) (G : Graph) (ns : List ℕ) (on : AllByRecursion (OnMap G) ns) (few : length ns ≤ 16) (F : ℕ → Bool) (s t : ℕ) (rs : List TreeRecord)
     (counts : (i : ℕ) → 0 < i → i ≤ length ns → count_in rs i ≡ closed_held F (tree_at K G ns i) G.junctions) (r : Reached) where
   module _ (old mid ended : Legs) (legs : LegTable) (places : legs.count ≡ length ns)
       (stored : (i j : ℕ) → old i j ≡ stored_legs K G ns i j)

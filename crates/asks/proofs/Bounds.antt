@@ -2,7 +2,7 @@
 use Rattle.std.proofs.Common.{◌≡◌, ℕ, ◌<◌, ◌≤◌, Bool, true, false, not, ◌&&◌, eqb, ◌⊎◌, List, length, is_some, Some, None, Option, refl, ap, subst, ⊎_elim}
 use Rattle.std.proofs.lemmas.Bool.{cases_Bool, both_ways, and_parts, and_left, and_right, eq-eqb, not_from_true}
 use Rattle.std.proofs.ByRecursion.{All-weaker}
-use Rattle.std.specs.List.{AllByRecursion as All}
+use Rattle.std.specs.List.{AllByRecursion}
 use Rattle.maps.specs.Graph.{Street, Graph}
 use Rattle.lengths.specs.Kinds.{Kind, LawfulKind}
 use Rattle.walks.specs.Streets.{empty_set, member, Coded}
@@ -27,15 +27,15 @@ module _ (G : Graph) (ns : List ℕ) (u : ℕ) where
   abbrev Leaves : ℕ → Type 0
   Leaves e = (a : Street) → G.street e ≡ Some a → (a.0 ≡ u) ⊎ (member ns a.0 ≡ false)
 
-  usable : (w : List ℕ) → PastNoOther G ns u w → All (UsableFrom G ns empty_set u) w
+  usable : (w : List ℕ) → PastNoOther G ns u w → AllByRecursion (UsableFrom G ns empty_set u) w
   usable w p = All-weaker Leaves (UsableFrom G ns empty_set u) (λ e f. (refl, f)) w p
 
-  past : (w : List ℕ) → All (UsableFrom G ns empty_set u) w → PastNoOther G ns u w
+  past : (w : List ℕ) → AllByRecursion (UsableFrom G ns empty_set u) w → PastNoOther G ns u w
   past w p = All-weaker (UsableFrom G ns empty_set u) Leaves (λ e f. f.1) w p
 
 module _ (K : Kind) (law : LawfulKind K) (G : Graph) (map : Coded G) (ns : List ℕ) (u : ℕ) where
   pub tree_own : (v e l : ℕ) → tree K G ns u v ≡ Some (e, l)
-      → (w : List ℕ) × Walk G.street u w v × PastNoOther G ns u w × All (Holds (tree K G ns u)) w × (walk_length K G.street w ≡ l)
+      → (w : List ℕ) × Walk G.street u w v × PastNoOther G ns u w × AllByRecursion (Holds (tree K G ns u)) w × (walk_length K G.street w ≡ l)
   tree_own v e l s = let x = run_sound K law G map ns empty_set u v e l s in (x.0, x.1, past G ns u x.0 x.2, x.3, x.4)
 
   pub tree_best : (v : ℕ) → BestPast K G ns u v (length_of (tree K G ns u v))

@@ -2,7 +2,7 @@
 use Rattle.std.proofs.Common.{◌≡◌, ℕ, zero, suc, ◌+◌, ◌<◌, ◌≤◌, Bool, true, false, cond, ◌||◌, List, [], ◌∷◌, ◌++◌, Some, None, filter, refl, ⊎_elim, add-one, arith}
 use Rattle.std.proofs.lemmas.Bool.{cases_Bool, both_ways, or_cases, or_left, or_right}
 use Rattle.std.proofs.ByRecursion.{all_kept_by}
-use Rattle.std.specs.List.{range_with_len, AllByRecursion as All}
+use Rattle.std.specs.List.{range_with_len, AllByRecursion}
 use Rattle.maps.specs.Graph.{Graph}
 use Rattle.lengths.specs.Kinds.{Kind, LawfulKind}
 use Rattle.walks.specs.Streets.{empty_set, Coded}
@@ -28,10 +28,10 @@ module _ (K : Kind) (G : Graph) (ns : List ℕ) where
   pub positions_next : (k e : ℕ) → positions_up_to K G ns (k + 1) e ≡ positions_up_to K G ns k e ++ cond (holds_street G (tree_at K G ns (k + 1)) e) ((k + 1) ∷ []) []
   positions_next k e = rw add-one (positions_more K G ns k e)
 
-  pub positions_within : (k e : ℕ) → All (λ i. (0 < i) × (i ≤ k)) (positions_up_to K G ns k e)
+  pub positions_within : (k e : ℕ) → AllByRecursion (λ i. (0 < i) × (i ≤ k)) (positions_up_to K G ns k e)
   positions_within k e = all_kept_by (λ i. holds_street G (tree_at K G ns i) e) (λ i. (0 < i) × (i ≤ k)) (range_with_len 1 k) (within 1 k k (omega arith) (omega arith))
     where
-      within : (a n k : ℕ) → 0 < a → a + n ≤ k + 1 → All (λ i. (0 < i) × (i ≤ k)) (range_with_len a n)
+      within : (a n k : ℕ) → 0 < a → a + n ≤ k + 1 → AllByRecursion (λ i. (0 < i) × (i ≤ k)) (range_with_len a n)
       within a zero k lo hi = tt
       within a (suc n) k lo hi = ((lo, omega arith), within (a + 1) n k (omega arith) (omega arith))
 

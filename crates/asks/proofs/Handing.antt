@@ -3,7 +3,7 @@ use Rattle.std.proofs.Common.{◌≡◌, ℕ, ◌-◌, ◌<◌, ◌≤◌, Bool,
 use mathlib.Core.Path.{fun_ext}
 use Rattle.std.proofs.lemmas.Bool.{cases_Bool, cond-true, and_parts, and_from, or_cases, eqb-true, eqb-false, ne_eqb, leb-true, le-leb, not-true}
 use Rattle.std.proofs.ByRecursion.{All-get_or}
-use Rattle.std.specs.List.{AllByRecursion as All}
+use Rattle.std.specs.List.{AllByRecursion}
 use Rattle.maps.specs.Graph.{Graph, reversed}
 use Rattle.lengths.specs.Kinds.{Kind, LawfulKind}
 use Rattle.walks.specs.Streets.{empty_set, Coded}
@@ -28,7 +28,7 @@ pub position_is : (k i : ℕ) → is_position k i ≡ true → (0 < i) × (i ≤
 position_is k i h = let p = and_parts (leb 1 i) (leb i k) h in (let q = leb-true 1 i p.0 in omega arith, leb-true i k p.1)
 
 -- a position's node is on the map
-pub node_on_map : (G : Graph) (ns : List ℕ) → All (OnMap G) ns → (i : ℕ) → 0 < i → i ≤ length ns → OnMap G (node_at ns i)
+pub node_on_map : (G : Graph) (ns : List ℕ) → AllByRecursion (OnMap G) ns → (i : ℕ) → 0 < i → i ≤ length ns → OnMap G (node_at ns i)
 node_on_map G ns on i lo hi = All-get_or (OnMap G) ns (i - 1) 0 (omega arith) on
 
 -- a node that is neither the start nor the goal stands for its position's junction
@@ -54,7 +54,7 @@ stored_is K G ns i j a b c d n =
     let k = length ns in
     rw (position_true k i a b, position_true k j c d, ne_eqb i j n)
 
-module _ (K : Kind) (law : LawfulKind K) (G : Graph) (map : Coded G) (ns : List ℕ) (on : All (OnMap G) ns) (F : ℕ → Bool) where
+module _ (K : Kind) (law : LawfulKind K) (G : Graph) (map : Coded G) (ns : List ℕ) (on : AllByRecursion (OnMap G) ns) (F : ℕ → Bool) where
   -- a leg between positions is a length of the run without the closed streets
   pub position_leg_is : (i j : ℕ) → 0 < i → i ≤ length ns → 0 < j → j ≤ length ns → (i ≡ j → ⊥)
       → position_leg K G ns F i j ≡ length_of (bounded_run K G ns F (node_at ns i) (node_at ns j))

@@ -4,7 +4,7 @@ use Rattle.std.proofs.lemmas.Bool.{cases_Bool, eqb-true, eqb-false, or_cases, or
 use Rattle.std.proofs.lemmas.List.FromFn.{length-range_with_len}
 use Rattle.std.proofs.lemmas.List.Elements.{filter-append}
 use Rattle.std.proofs.ByRecursion.{all_kept_by}
-use Rattle.std.specs.List.{range_with_len, AllByRecursion as All}
+use Rattle.std.specs.List.{range_with_len, AllByRecursion}
 use Rattle.maps.specs.Graph.{Graph}
 use Rattle.lengths.specs.Kinds.{Kind, LawfulKind}
 use Rattle.walks.specs.Streets.{member, Coded}
@@ -54,7 +54,7 @@ rising_kept p (x ∷ xs) h = go (p x) (rising_kept p xs h.1)
     go true r = (all_kept_by p (λ y. x < y) xs h.0, r)
     go false r = r
 
-counting_above : (a b n : ℕ) → a < b → All (λ y. a < y) (range_with_len b n)
+counting_above : (a b n : ℕ) → a < b → AllByRecursion (λ y. a < y) (range_with_len b n)
 counting_above a b zero h = tt
 counting_above a b (suc n) h = (h, counting_above a (b + 1) n (omega arith))
 

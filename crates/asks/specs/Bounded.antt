@@ -1,6 +1,6 @@
 -- Walks past no other transit node, and the best length of such walks.
 use Rattle.std.specs.Prelude.{◌≡◌, ℕ, true, false, ◌⊎◌, List, Some, None, Option}
-use Rattle.std.specs.List.{AllByRecursion as All}
+use Rattle.std.specs.List.{AllByRecursion}
 use Rattle.maps.specs.Graph.{Street, Graph}
 use Rattle.lengths.specs.Kinds.{Kind}
 use Rattle.walks.specs.Streets.{member}
@@ -8,7 +8,7 @@ use Rattle.walks.specs.Walks.{Walk, walk_length}
 
 -- the walk w from u leads past no other transit node: each of its streets leaves u or a junction that is not in the transit list
 abbrev pub PastNoOther : Graph → List ℕ → ℕ → List ℕ → Type 0
-PastNoOther G ns u w = All (λ e. (a : Street) → G.street e ≡ Some a → (a.0 ≡ u) ⊎ (member ns a.0 ≡ false)) w
+PastNoOther G ns u w = AllByRecursion (λ e. (a : Street) → G.street e ≡ Some a → (a.0 ≡ u) ⊎ (member ns a.0 ≡ false)) w
 
 -- a walk past no other transit node leads from u to v
 abbrev pub LeadsPast : Graph → List ℕ → ℕ → ℕ → Type 0

@@ -1,6 +1,6 @@
 -- The theorems about what an ask works out, for every lawful kind and every map whose lengths are codes.
 use Rattle.std.specs.Prelude.{◌≡◌, ℕ, suc, ◌+◌, ◌<◌, ◌≤◌, Bool, true, false, List, length, is_some, Some, None, Option, ◌≢◌}
-use Rattle.std.specs.List.{range_with_len, AllByRecursion as All}
+use Rattle.std.specs.List.{range_with_len, AllByRecursion}
 use Rattle.maps.specs.Graph.{Graph}
 use Rattle.lengths.specs.Kinds.{Kind, LawfulKind}
 use Rattle.walks.specs.Streets.{empty_set, member, Coded}
@@ -23,7 +23,7 @@ pub record TreeInWords (K : Kind) (G : Graph) (ns : List ℕ) (u : ℕ) : Type 0
   pub has : (v : ℕ) → Tells (is_some (tree K G ns u v)) (LeadsPast G ns u v)
   pub best : (v : ℕ) → BestPast K G ns u v (length_of (tree K G ns u v))
   pub own : (v e l : ℕ) → tree K G ns u v ≡ Some (e, l)
-      → (w : List ℕ) × Walk G.street u w v × PastNoOther G ns u w × All (Holds (tree K G ns u)) w × (walk_length K G.street w ≡ l)
+      → (w : List ℕ) × Walk G.street u w v × PastNoOther G ns u w × AllByRecursion (Holds (tree K G ns u)) w × (walk_length K G.street w ≡ l)
 
 abbrev pub TreesInWords : Type 0
 TreesInWords = (K : Kind) → LawfulKind K → (G : Graph) → Coded G → (ns : List ℕ) (u : ℕ) → TreeInWords K G ns u
@@ -84,23 +84,23 @@ pub record NumbersByIndex (K : Kind) (G : Graph) (ns : List ℕ) (F : ℕ → Bo
       → closed_held F (tree_at K G ns i) G.junctions ≡ closed_held (marked F e false) (tree_at K G ns i) G.junctions + bit (member (positions K G ns e) i)
 
 abbrev pub NumbersFollowIndex : Type 0
-NumbersFollowIndex = (K : Kind) → LawfulKind K → (G : Graph) → Coded G → (ns : List ℕ) → All (OnMap G) ns → (F : ℕ → Bool) (e i : ℕ) → 0 < e → 0 < i → i ≤ length ns
+NumbersFollowIndex = (K : Kind) → LawfulKind K → (G : Graph) → Coded G → (ns : List ℕ) → AllByRecursion (OnMap G) ns → (F : ℕ → Bool) (e i : ℕ) → 0 < e → 0 < i → i ≤ length ns
     → NumbersByIndex K G ns F e i
 
 -- ---- the legs that an ask hands on
 -- they are the legs without the closed streets
 abbrev pub HandedAreLegs : Type 0
-HandedAreLegs = (K : Kind) → LawfulKind K → (G : Graph) → Coded G → (ns : List ℕ) → All (OnMap G) ns → length ns ≤ 16 → (F : ℕ → Bool) (s t i j : ℕ)
+HandedAreLegs = (K : Kind) → LawfulKind K → (G : Graph) → Coded G → (ns : List ℕ) → AllByRecursion (OnMap G) ns → length ns ≤ 16 → (F : ℕ → Bool) (s t i j : ℕ)
     → handed_legs K G ns F s t i j ≡ legs_of K G ns F s t i j
 
 -- so the best way over them is the best open way, to the goal and to each transit node
 abbrev pub HandedAnswer : Type 0
-HandedAnswer = (K : Kind) → LawfulKind K → (G : Graph) → Coded G → (ns : List ℕ) → All (OnMap G) ns → length ns ≤ 16 → (F : ℕ → Bool) (s t q : ℕ) → Target (length ns) q
+HandedAnswer = (K : Kind) → LawfulKind K → (G : Graph) → Coded G → (ns : List ℕ) → AllByRecursion (OnMap G) ns → length ns ≤ 16 → (F : ℕ → Bool) (s t q : ℕ) → Target (length ns) q
     → (a : Option ℕ) → BestOpen K (grid (handed_legs K G ns F s t)) empty_set 0 q a → BestOpen K G.street F s (junction_of ns s t q) a
 
 -- and a node is reached over them exactly if an open walk leads to its junction
 abbrev pub HandedReach : Type 0
-HandedReach = (K : Kind) → LawfulKind K → (G : Graph) → Coded G → (ns : List ℕ) → All (OnMap G) ns → length ns ≤ 16 → (F : ℕ → Bool) (s t q : ℕ) → Target (length ns) q
+HandedReach = (K : Kind) → LawfulKind K → (G : Graph) → Coded G → (ns : List ℕ) → AllByRecursion (OnMap G) ns → length ns ≤ 16 → (F : ℕ → Bool) (s t q : ℕ) → Target (length ns) q
     → SameReach G.street (grid (handed_legs K G ns F s t)) F s (junction_of ns s t q) q
 
 -- ---- legs of which only the reached rows are filled in
@@ -118,13 +118,13 @@ PartialLegsAnswer = (K : Kind) (D E : Legs) → AgreesWhereReached D E → (q : 
 
 -- so an ask may leave rows absent that are not reached: the best way is still the best open way, to the goal and to each transit node
 abbrev pub PartialHandedAnswer : Type 0
-PartialHandedAnswer = (K : Kind) → LawfulKind K → (G : Graph) → Coded G → (ns : List ℕ) → All (OnMap G) ns → length ns ≤ 16 → (F : ℕ → Bool) (s t : ℕ) (D : Legs)
+PartialHandedAnswer = (K : Kind) → LawfulKind K → (G : Graph) → Coded G → (ns : List ℕ) → AllByRecursion (OnMap G) ns → length ns ≤ 16 → (F : ℕ → Bool) (s t : ℕ) (D : Legs)
     → AgreesWhereReached D (handed_legs K G ns F s t) → (q : ℕ) → Target (length ns) q
     → (a : Option ℕ) → BestOpen K (grid D) empty_set 0 q a → BestOpen K G.street F s (junction_of ns s t q) a
 
 -- and a node is reached over them exactly if an open walk leads to its junction
 abbrev pub PartialHandedReach : Type 0
-PartialHandedReach = (K : Kind) → LawfulKind K → (G : Graph) → Coded G → (ns : List ℕ) → All (OnMap G) ns → length ns ≤ 16 → (F : ℕ → Bool) (s t : ℕ) (D : Legs)
+PartialHandedReach = (K : Kind) → LawfulKind K → (G : Graph) → Coded G → (ns : List ℕ) → AllByRecursion (OnMap G) ns → length ns ≤ 16 → (F : ℕ → Bool) (s t : ℕ) (D : Legs)
     → AgreesWhereReached D (handed_legs K G ns F s t) → (q : ℕ) → Target (length ns) q → SameReach G.street (grid D) F s (junction_of ns s t q) q
 
 -- a round is the last one if each position that it reaches and whose tree is affected is in R
@@ -145,13 +145,13 @@ RedoneOnce = (K : Kind) (G : Graph) (ns : List ℕ) (F : ℕ → Bool) (s a b : 
 
 -- it is the number of positions whose transit node has a right length from s, and whose tree is affected
 abbrev pub RedoneByLengths : Type 0
-RedoneByLengths = (K : Kind) → LawfulKind K → (G : Graph) → Coded G → (ns : List ℕ) → All (OnMap G) ns → (F : ℕ → Bool) → F 0 ≡ false → (s : ℕ) (A : ℕ → Option ℕ)
+RedoneByLengths = (K : Kind) → LawfulKind K → (G : Graph) → Coded G → (ns : List ℕ) → AllByRecursion (OnMap G) ns → (F : ℕ → Bool) → F 0 ≡ false → (s : ℕ) (A : ℕ → Option ℕ)
     → ((i : ℕ) → 0 < i → i ≤ length ns → BestOpen K G.street F s (node_at ns i) (A i))
     → Redone K G ns F s (passing (is_redone K G ns F A) (length ns))
 
 -- so a right search tells it, over the legs handed on or over their reached rows
 abbrev pub RedoneBySearch : Type 0
-RedoneBySearch = (K : Kind) → LawfulKind K → (G : Graph) → Coded G → (ns : List ℕ) → All (OnMap G) ns → length ns ≤ 16 → (F : ℕ → Bool) → F 0 ≡ false → (s t : ℕ) (D : Legs)
+RedoneBySearch = (K : Kind) → LawfulKind K → (G : Graph) → Coded G → (ns : List ℕ) → AllByRecursion (OnMap G) ns → length ns ≤ 16 → (F : ℕ → Bool) → F 0 ≡ false → (s t : ℕ) (D : Legs)
     → AgreesWhereReached D (handed_legs K G ns F s t) → (A : ℕ → Option ℕ)
     → ((i : ℕ) → 0 < i → i ≤ length ns → BestOpen K (grid D) empty_set 0 i (A i))
     → Redone K G ns F s (passing (is_redone K G ns F A) (length ns))

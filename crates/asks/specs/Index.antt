@@ -1,6 +1,6 @@
 -- The inverted index: for each street the positions of the trees that hold it.
 use Rattle.std.specs.Prelude.{ℕ, ◌-◌, ◌<◌, List, [], ◌∷◌, length, filter, slice_index}
-use Rattle.std.specs.List.{range_with_len, AllByRecursion as All}
+use Rattle.std.specs.List.{range_with_len, AllByRecursion}
 use Rattle.maps.specs.Graph.{Graph}
 use Rattle.lengths.specs.Kinds.{Kind}
 use Rattle.walks.specs.Runs.{Table}
@@ -25,4 +25,4 @@ positions K G ns e = positions_up_to K G ns (length ns) e
 -- each number is below all that stand after it, so that none stands twice
 abbrev pub Rising : List ℕ → Type 0
 Rising [] = Unit {0}
-Rising (x ∷ xs) = All (λ y. x < y) xs × Rising xs
+Rising (x ∷ xs) = AllByRecursion (λ y. x < y) xs × Rising xs

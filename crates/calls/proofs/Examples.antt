@@ -1,6 +1,6 @@
 -- The examples of lives: what they answer is worked out.
 use Rattle.std.proofs.Common.{◌≡◌, ℕ, zero, suc, ◌^◌, ◌<◌, ◌≤◌, List, [], ◌∷◌, length, Some, None, refl, subst, arith}
-use Rattle.std.specs.List.{AllByRecursion as All}
+use Rattle.std.specs.List.{AllByRecursion}
 use Rattle.maps.specs.Graph.{Street, Graph, Placed, LawfulMap}
 use Rattle.lengths.specs.Kinds.{Kind, LawfulKind, paces, gates}
 use Rattle.lengths.specs.Laws.{KindsLawful}
@@ -18,7 +18,7 @@ no_street (x ∷ xs) zero l = refl
 no_street (x ∷ xs) (suc zero) l = absurd (omega arith)
 no_street (x ∷ xs) (suc (suc e)) l = no_street xs (suc e) (omega arith)
 
-all_placed : (n : ℕ) (es : List Street) → All (λ a. Placed n (Some a)) es → (e : ℕ) → Placed n (listed es e)
+all_placed : (n : ℕ) (es : List Street) → AllByRecursion (λ a. Placed n (Some a)) es → (e : ℕ) → Placed n (listed es e)
 all_placed n [] h e = tt
 all_placed n (x ∷ xs) h zero = tt
 all_placed n (x ∷ xs) h (suc zero) = h.0
@@ -28,7 +28,7 @@ no_zero : (es : List Street) → listed es 0 ≡ None
 no_zero [] = refl
 no_zero (x ∷ xs) = refl
 
-pub drawn_lawful : (n : ℕ) (es : List Street) → 0 < n → n ≤ 128 → length es ≤ 512 → All (λ a. Placed n (Some a)) es → LawfulMap (drawn n es)
+pub drawn_lawful : (n : ℕ) (es : List Street) → 0 < n → n ≤ 128 → length es ≤ 512 → AllByRecursion (λ a. Placed n (Some a)) es → LawfulMap (drawn n es)
 drawn_lawful n es l m k h =
     record { some_junction = l; few_junctions = m; few_slots = k; no_zero = no_zero es; no_more = no_street es; placed = all_placed n es h }
 

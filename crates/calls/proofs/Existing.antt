@@ -1,6 +1,6 @@
 -- Every list of calls has a life; its answers compute.
 use Rattle.std.proofs.Common.{◌≡◌, ℕ, suc, Bool, true, false, cond, ◌⊎◌, List, [], ◌∷◌, is_some, Some, None, Ok, Err, Option, Result, refl, inl, inr, ⊎_elim}
-use Rattle.std.specs.List.{AllByRecursion as All}
+use Rattle.std.specs.List.{AllByRecursion}
 use Rattle.maps.specs.Graph.{Graph, LawfulMap}
 use Rattle.lengths.specs.Kinds.{Kind, LawfulKind}
 use Rattle.walks.specs.Streets.{Coded}
@@ -34,13 +34,13 @@ abbrev both_told : (P Q : Type 0) → P ⊎ (P → ⊥) → Q ⊎ (Q → ⊥) �
 both_told P Q p q = ⊎_elim (λ x. ⊎_elim (λ y. inl (x, y)) (λ n. inr (λ z. n z.1)) q) (λ n. inr (λ z. n z.0)) p
 
 -- what is told of each number of a list is counted
-abbrev pub counted : (P : ℕ → Type 0) (xs : List ℕ) → All (λ x. P x ⊎ (P x → ⊥)) xs → (r : ℕ) × Counted P xs r
+abbrev pub counted : (P : ℕ → Type 0) (xs : List ℕ) → AllByRecursion (λ x. P x ⊎ (P x → ⊥)) xs → (r : ℕ) × Counted P xs r
 counted P [] h = (0, refl)
 counted P (x ∷ xs) h =
     let c = counted P xs h.1 in
     ⊎_elim (λ p. (suc c.0, inl (p, (c.0, refl, c.1)))) (λ n. (c.0, inr (n, c.1))) h.0
 
-abbrev all_of : (P Q : ℕ → Type 0) → ((x : ℕ) → P x → Q x) → (xs : List ℕ) → All P xs → All Q xs
+abbrev all_of : (P Q : ℕ → Type 0) → ((x : ℕ) → P x → Q x) → (xs : List ℕ) → AllByRecursion P xs → AllByRecursion Q xs
 all_of P Q f [] h = tt
 all_of P Q f (x ∷ xs) h = (f x h.0, all_of P Q f xs h.1)
 
@@ -49,7 +49,7 @@ module _ (K : Kind) (law : LawfulKind K) (G : Graph) (map : LawfulMap G) where
   pub coded : Coded G
   coded = lawful_is_coded G map
 
-  abbrev pub redone_exists : (ns : List ℕ) → All (OnMap G) ns → (F : ℕ → Bool) → F 0 ≡ false → (s : ℕ) → (r : ℕ) × Redone K G ns F s r
+  abbrev pub redone_exists : (ns : List ℕ) → AllByRecursion (OnMap G) ns → (F : ℕ → Bool) → F 0 ≡ false → (s : ℕ) → (r : ℕ) × Redone K G ns F s r
   redone_exists ns on F z s =
       counted (λ v. Leads G.street F s v × Affected F (tree K G ns v)) ns
       (all_of (OnMap G) (λ v. (Leads G.street F s v × Affected F (tree K G ns v)) ⊎ ((Leads G.street F s v × Affected F (tree K G ns v)) → ⊥))

@@ -1,7 +1,7 @@
 -- What `decided` gives is what the line stands for.
 use Rattle.std.proofs.Common.{◌≡◌, ℕ, suc, ◌<◌, ◌≤◌, Bool, true, false, cond, eqb, leb, List, [], ◌∷◌, map, length, Ok, Err, Result, sym, refl, ap, ◌∙◌, subst, inl, inr, arith, eqb-true, leb-false, leb-true}
 use borrow.Author.Tests.{eqb-false}
-use Rattle.std.specs.List.{AllByRecursion as All}
+use Rattle.std.specs.List.{AllByRecursion}
 use Rattle.calls.specs.declared.Call.{Call}
 use Rattle.calls.specs.declared.Call.TheVariants.{Name, Build, Close, Reopen, Ask, Tally, Replan}
 use Rattle.commands.specs.Numbers.{IsNumeral, value_of}
@@ -34,7 +34,7 @@ few Replan = omega arith
 few (Ask s t) = omega arith
 
 -- the line has the form of the numbers ns, and no call has them
-no_form : (b : ℕ) (ns : List (List ℕ)) (rest : List ℕ) → All IsNumeral ns → rest ≡ spaced ns → NoCall b (length ns) → Outcome (b ∷ rest) (Err NoForm)
+no_form : (b : ℕ) (ns : List (List ℕ)) (rest : List ℕ) → AllByRecursion IsNumeral ns → rest ≡ spaced ns → NoCall b (length ns) → Outcome (b ∷ rest) (Err NoForm)
 no_form b ns rest num is none c ms s =
     let same = spaced_same ns ms num s.numerals (sym is ∙ tail _ _ _ _ s.bytes) in
     none c (head _ _ _ _ s.bytes) (sym (ap length s.values) ∙ map_length ms ∙ ap length (sym same))

@@ -1,6 +1,6 @@
 -- The lines of a text are the parts between its line ends.
 use Rattle.std.proofs.Common.{◌≡◌, ℕ, Bool, true, false, cond, not, eqb, List, [], ◌∷◌, ◌++◌, refl, ap, ◌∙◌, append_assoc, arith, eqb-true}
-use Rattle.std.specs.List.{AllByRecursion as All}
+use Rattle.std.specs.List.{AllByRecursion}
 use Rattle.commands.specs.Text.{onto, lines_of, differs, Endless, ended, last_line, LinesStand}
 
 -- a byte that ends no line goes in front of the first line
@@ -23,13 +23,13 @@ line_last : (l : List ℕ) → Endless l → lines_of l ≡ last_line l
 line_last [] h = refl
 line_last (b ∷ l) h = within_line b l h.0 ∙ ap (onto b) (line_last l h.1) ∙ onto_last b l
 
-written : (ls : List (List ℕ)) (l : List ℕ) → All Endless ls → Endless l → lines_of (ended ls ++ l) ≡ ls ++ last_line l
+written : (ls : List (List ℕ)) (l : List ℕ) → AllByRecursion Endless ls → Endless l → lines_of (ended ls ++ l) ≡ ls ++ last_line l
 written [] l h last = line_last l last
 written (k ∷ ls) l h last = ap lines_of (append_assoc k (10 ∷ ended ls) l) ∙ line_first k (ended ls ++ l) h.0 ∙ ap (λ r. k ∷ r) (written ls l h.1 last)
 
 -- the text is made of these ended lines and this last part
 abbrev Made : List ℕ → List (List ℕ) → List ℕ → Type 0
-Made text ls l = All Endless ls × Endless l × (text ≡ ended ls ++ l)
+Made text ls l = AllByRecursion Endless ls × Endless l × (text ≡ ended ls ++ l)
 
 -- one byte more in front
 more : (b : ℕ) (bs : List ℕ) (t : Bool) → eqb b 10 ≡ t → (ls : List (List ℕ)) (l : List ℕ) → Made bs ls l → (ms : List (List ℕ)) × (m : List ℕ) × Made (b ∷ bs) ms m

@@ -1,6 +1,6 @@
 -- The numbers of a line, read one by one.
 use Rattle.std.proofs.Common.{◌≡◌, ℕ, suc, ◌≤◌, true, List, [], ◌∷◌, ◌++◌, length, sym, refl, ap, ◌∙◌, arith}
-use Rattle.std.specs.List.{AllByRecursion as All}
+use Rattle.std.specs.List.{AllByRecursion}
 use Rattle.std.proofs.ByRecursion.{All-weaker}
 use Rattle.std.proofs.lemmas.Bool.Decides.{nat_tests}
 use Rattle.commands.specs.Text.{differs}
@@ -13,7 +13,7 @@ use Rattle.commands.proofs.Spaces.{apart}
 
 -- the text is not made of at most k numbers
 abbrev pub NoNumbers : ℕ → List ℕ → Type 0
-NoNumbers k text = (ns : List (List ℕ)) → length ns ≤ k → All IsNumeral ns → text ≡ spaced ns → ⊥
+NoNumbers k text = (ns : List (List ℕ)) → length ns ≤ k → AllByRecursion IsNumeral ns → text ≡ spaced ns → ⊥
 
 pub empty : (xs : List ℕ) → length xs ≡ 0 → xs ≡ []
 empty [] h = refl
@@ -58,7 +58,7 @@ no_more k text a rest f none (m ∷ ms) few num e =
     (apart a.digits.now m rest (spaced ms) (numeral_spaceless _ f.valued.0) (numeral_spaceless m num.0) f.stops (spaced_stops ms) same).1
 
 -- a text is made of numbers in one way
-pub spaced_same : (ns ms : List (List ℕ)) → All IsNumeral ns → All IsNumeral ms → spaced ns ≡ spaced ms → ns ≡ ms
+pub spaced_same : (ns ms : List (List ℕ)) → AllByRecursion IsNumeral ns → AllByRecursion IsNumeral ms → spaced ns ≡ spaced ms → ns ≡ ms
 spaced_same [] [] p q e = refl
 spaced_same [] (m ∷ ms) p q e = absurd (clash _ _ e)
 spaced_same (n ∷ ns) [] p q e = absurd (clash _ _ (sym e))

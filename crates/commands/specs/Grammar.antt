@@ -1,6 +1,6 @@
 -- The grammar of command lines: a letter, then each number after one space.
 use Rattle.std.specs.Prelude.{◌≡◌, ℕ, ◌<◌, ◌≤◌, ◌⊎◌, List, [], ◌∷◌, ◌++◌, map}
-use Rattle.std.specs.List.{AllByRecursion as All}
+use Rattle.std.specs.List.{AllByRecursion}
 use Rattle.calls.specs.declared.Call.{Call}
 use Rattle.calls.specs.declared.Call.TheVariants.{Name, Build, Close, Reopen, Ask, Tally, Replan}
 use Rattle.commands.specs.Numbers.{IsNumeral, value_of}
@@ -32,13 +32,13 @@ spaced (n ∷ ns) = 32 ∷ (n ++ spaced ns)
 
 -- the line spells the call c, its numbers written as ns
 pub record Spells (c : Call) (ns : List (List ℕ)) (line : List ℕ) : Type 0 where
-  pub numerals : All IsNumeral ns
+  pub numerals : AllByRecursion IsNumeral ns
   pub bytes : line ≡ letter_of c ∷ spaced ns
   pub values : map value_of ns ≡ numbers_of c
 
 -- each number is at most 65,535
 abbrev pub AllSmall : List (List ℕ) → Type 0
-AllSmall ns = All (λ n. value_of n ≤ 65535) ns
+AllSmall ns = AllByRecursion (λ n. value_of n ≤ 65535) ns
 
 -- d is the first of the numbers that is above 65,535
 abbrev pub FirstLarge : List (List ℕ) → List ℕ → Type 0

@@ -1,6 +1,6 @@
 -- Numbers as they are written.
 use Rattle.std.specs.Prelude.{◌≡◌, ℕ, ◌+◌, ◌-◌, ◌*◌, ◌<◌, min, Bool, true, ◌&&◌, List, length, fold, nat_le}
-use Rattle.std.specs.List.{AllByRecursion as All}
+use Rattle.std.specs.List.{AllByRecursion}
 
 -- b is one of the digits 0 to 9
 abbrev pub is_digit : ℕ → Bool
@@ -8,7 +8,7 @@ is_digit b = nat_le 48 b && nat_le b 57
 
 -- a number as written: one or more digits
 abbrev pub IsNumeral : List ℕ → Type 0
-IsNumeral ds = (0 < length ds) × All (λ d. is_digit d ≡ true) ds
+IsNumeral ds = (0 < length ds) × AllByRecursion (λ d. is_digit d ≡ true) ds
 
 -- the number that digits write, in base ten
 abbrev pub value_of : List ℕ → ℕ

@@ -1,6 +1,6 @@
 -- Which part of a line a token is.
 use Rattle.std.specs.Prelude.{◌≡◌, ℕ, true, List, ◌++◌}
-use Rattle.std.specs.List.{AllByRecursion as All}
+use Rattle.std.specs.List.{AllByRecursion}
 use Rattle.commands.specs.Text.{differs, before}
 use Rattle.commands.specs.Numbers.{IsNumeral, value_of, capped}
 use Rattle.commands.specs.declared.tokens.Numeral.{Numeral}
@@ -23,7 +23,7 @@ Classed (Number n) = Valued n
 
 -- no byte is a space
 abbrev pub Spaceless : List ℕ → Type 0
-Spaceless bs = All (λ b. differs 32 b ≡ true) bs
+Spaceless bs = AllByRecursion (λ b. differs 32 b ≡ true) bs
 
 -- the text ends, or a space comes next
 abbrev pub Stops : List ℕ → Type 0

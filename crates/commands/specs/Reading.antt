@@ -1,6 +1,6 @@
 -- The steps in which a line is read: the numbers behind its letter, and the call of both.
 use Rattle.std.specs.Prelude.{◌≡◌, ℕ, ◌<◌, ◌≤◌, cond, List, [], ◌∷◌, ◌++◌, length, Ok, Err, Result, ◌==◌, ◌≢◌, nat_le, slice_index}
-use Rattle.std.specs.List.{AllByRecursion as All}
+use Rattle.std.specs.List.{AllByRecursion}
 use Rattle.calls.specs.declared.Call.{Call}
 use Rattle.calls.specs.declared.Call.TheVariants.{Name, Build, Close, Reopen, Ask, Tally, Replan}
 use Rattle.commands.specs.Numbers.{IsNumeral}
@@ -31,7 +31,7 @@ abbrev pub Follow : List ℕ → Numbers → Type 0
 Follow text Zero = text ≡ []
 Follow text (One a) = Valued a × (text ≡ spaced (a.digits.now ∷ []))
 Follow text (Two a b) = Valued a × Valued b × (text ≡ spaced (a.digits.now ∷ b.digits.now ∷ []))
-Follow text Other = (ns : List (List ℕ)) → length ns ≤ 2 → All IsNumeral ns → text ≢ spaced ns
+Follow text Other = (ns : List (List ℕ)) → length ns ≤ 2 → AllByRecursion IsNumeral ns → text ≢ spaced ns
 
 -- the value where it is small enough
 abbrev pub small_of : Numeral → Result ℕ LineFault

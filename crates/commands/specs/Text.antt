@@ -1,6 +1,6 @@
 -- The lines of a text.
 use Rattle.std.specs.Prelude.{◌≡◌, ℕ, ◌+◌, ◌<◌, ◌≤◌, Bool, true, cond, not, ◌⊎◌, List, [], ◌∷◌, ◌++◌, length, ◌==◌}
-use Rattle.std.specs.List.{prefix_len, AllByRecursion as All}
+use Rattle.std.specs.List.{prefix_len, AllByRecursion}
 
 -- b in front of the first line
 abbrev pub onto : ℕ → List (List ℕ) → List (List ℕ)
@@ -22,7 +22,7 @@ before stop bs = prefix_len (differs stop) bs
 
 -- no byte ends a line
 abbrev pub Endless : List ℕ → Type 0
-Endless l = All (λ b. differs 10 b ≡ true) l
+Endless l = AllByRecursion (λ b. differs 10 b ≡ true) l
 
 -- each line, followed by its end
 abbrev pub ended : List (List ℕ) → List ℕ
@@ -36,8 +36,8 @@ last_line (b ∷ l) = (b ∷ l) ∷ []
 
 -- a text of ended lines and a last part has these lines; and every text is of this shape
 pub record LinesStand : Type 0 where
-  pub written : (ls : List (List ℕ)) (l : List ℕ) → All Endless ls → Endless l → lines_of (ended ls ++ l) ≡ ls ++ last_line l
-  pub every : (text : List ℕ) → (ls : List (List ℕ)) × (l : List ℕ) × (All Endless ls × Endless l × (text ≡ ended ls ++ l))
+  pub written : (ls : List (List ℕ)) (l : List ℕ) → AllByRecursion Endless ls → Endless l → lines_of (ended ls ++ l) ≡ ls ++ last_line l
+  pub every : (text : List ℕ) → (ls : List (List ℕ)) × (l : List ℕ) × (AllByRecursion Endless ls × Endless l × (text ≡ ended ls ++ l))
 
 -- the text begins with this line, without its end, and rest follows the end
 pub record FirstLine (text line rest : List ℕ) : Type 0 where

@@ -4,7 +4,7 @@ use Rattle.std.proofs.lemmas.Map.{update_here, update_apart}
 use Rattle.std.proofs.ByRecursion.{all-has, has_shuffled}
 use Rattle.std.proofs.lemmas.List.Sorted.{length_permutation, IsPermutation-sym}
 use Rattle.std.specs.Map.{update}
-use Rattle.std.specs.List.{ContainsAt as Has, AllByRecursion as All}
+use Rattle.std.specs.List.{ContainsAt, AllByRecursion}
 use Rattle.std.specs.List.Sorted.{IsPermutation}
 use Rattle.lengths.specs.Kinds.{Kind, LawfulKind, Code}
 use Rattle.maps.specs.Graph.{Street}
@@ -62,9 +62,9 @@ module _ (K : Kind) (law : LawfulKind K) (D : Legs) (k : ℕ) (legs : LegsOf D k
   -- after v is settled: what leads into v need not wait before
   module _ (T : Table) (v : ℕ) (b : Entry) (un : T v ≡ None) (L : Lengths) (shows : (u : ℕ) → length_of (settle T (Some (v, b.0, b.1)) u) ≡ L u)
       (hs ts : List Node) (s : IsPermutation (adding_all K (open_legs L (D v)) b.1 k hs) ts)
-      (offered : (x : Node) → Has hs x → Offered K D T x)
-      (waits : (i j w : ℕ) (t : Entry) → D i j ≡ Some w → T i ≡ Some t → T j ≡ None → (j ≡ v → ⊥) → Has hs (node (K.join t.1 w) j)) where
-    offered_more : (x : Node) → Has ts x → Offered K D (settle T (Some (v, b.0, b.1))) x
+      (offered : (x : Node) → ContainsAt hs x → Offered K D T x)
+      (waits : (i j w : ℕ) (t : Entry) → D i j ≡ Some w → T i ≡ Some t → T j ≡ None → (j ≡ v → ⊥) → ContainsAt hs (node (K.join t.1 w) j)) where
+    offered_more : (x : Node) → ContainsAt ts x → Offered K D (settle T (Some (v, b.0, b.1))) x
     offered_more x h =
         ⊎_elim
         (λ o. let y = offered x o in
@@ -72,7 +72,7 @@ module _ (K : Kind) (law : LawfulKind K) (D : Legs) (k : ℕ) (legs : LegsOf D k
         (λ o. (v, b, o.0, open_is L (D v) x.position o.0 o.1, update_here T v (Some b), o.2))
         (all_only K (open_legs L (D v)) b.1 hs k x (has_shuffled _ _ x (IsPermutation-sym _ _ s) h))
 
-    waits_more : (i j w : ℕ) (t : Entry) → D i j ≡ Some w → settle T (Some (v, b.0, b.1)) i ≡ Some t → settle T (Some (v, b.0, b.1)) j ≡ None → Has ts (node (K.join t.1 w) j)
+    waits_more : (i j w : ℕ) (t : Entry) → D i j ≡ Some w → settle T (Some (v, b.0, b.1)) i ≡ Some t → settle T (Some (v, b.0, b.1)) j ≡ None → ContainsAt ts (node (K.join t.1 w) j)
     waits_more i j w t q p u =
         let n : L j ≡ None = sym (shows j) ∙ ap length_of u in
         has_shuffled _ _ _ s
@@ -127,12 +127,12 @@ module _ (K : Kind) (law : LawfulKind K) (D : Legs) (k : ℕ) (legs : LegsOf D k
           few = omega arith;
         }
 
-    waiting_code : (d : Node) → Has (c ∷ hs) d → Code d.length
+    waiting_code : (d : Node) → ContainsAt (c ∷ hs) d → Code d.length
     waiting_code d h =
         let y = i.offered d h in
         rw y.5 (law.join_code y.1.1 y.2 (i.kept.codes y.0 y.1 y.4) (legs.codes y.0 d.position y.2 y.3))
 
-    module _ (best : All (NodeAhead K c) hs) (p : L c.position ≡ None) where
+    module _ (best : AllByRecursion (NodeAhead K c) hs) (p : L c.position ≡ None) where
       fresh : i.table c.position ≡ None
       fresh = none_shown (i.table c.position) (L c.position) (i.shows c.position) p
 
@@ -197,7 +197,7 @@ module _ (K : Kind) (law : LawfulKind K) (D : Legs) (k : ℕ) (legs : LegsOf D k
               shown : (u : ℕ) → length_of (settle i.table (Some (c.position, slot, c.length)) u) ≡ M u
               shown u = rw is (shows_set i.table L c.position slot c.length i.shows u)
 
-              before : (a j w : ℕ) (t : Entry) → D a j ≡ Some w → i.table a ≡ Some t → i.table j ≡ None → (j ≡ c.position → ⊥) → Has hs (node (K.join t.1 w) j)
+              before : (a j w : ℕ) (t : Entry) → D a j ≡ Some w → i.table a ≡ Some t → i.table j ≡ None → (j ≡ c.position → ⊥) → ContainsAt hs (node (K.join t.1 w) j)
               before a j w t q r u x =
                   ⊎_elim (λ (z : c ≡ node (K.join t.1 w) j). absurd (x (ap (λ (y : Node). y.position) (sym z)))) (λ z. z) (has_cases c _ hs (i.waits a j w t q r u))
 

@@ -4,7 +4,7 @@ use Rattle.std.proofs.lemmas.Bool.{cases_eq, cases_lt}
 use Rattle.std.proofs.lemmas.Map.{update_here, update_apart}
 use Rattle.std.proofs.lemmas.List.Sorted.{IsPermutation-cons, IsPermutation-trans, length_permutation}
 use Rattle.std.specs.Map.{update}
-use Rattle.std.specs.List.{ContainsAt as Has}
+use Rattle.std.specs.List.{ContainsAt}
 use Rattle.std.specs.List.Sorted.{IsPermutation}
 use Rattle.lengths.specs.Kinds.{Kind}
 use Rattle.entries.specs.declared.Node.{Node}
@@ -14,13 +14,13 @@ use Rattle.walks.proofs.Facts.{none≢some}
 use Rattle.legs.specs.Searches.{Lengths, unless_reached, open_legs, adding, adding_positions, adding_all, blank, unreached, pairs}
 
 -- ---- lists
-pub has_first : {E : Type 0} (x : E) (xs : List E) → Has (x ∷ xs) x
+pub has_first : {E : Type 0} (x : E) (xs : List E) → ContainsAt (x ∷ xs) x
 has_first x xs = (0, omega arith, λ d. refl)
 
-pub has_next : {E : Type 0} (x y : E) (xs : List E) → Has xs y → Has (x ∷ xs) y
+pub has_next : {E : Type 0} (x y : E) (xs : List E) → ContainsAt xs y → ContainsAt (x ∷ xs) y
 has_next x y xs h = (suc h.0, omega arith, λ d. h.2 d)
 
-pub has_cases : {E : Type 0} (x y : E) (xs : List E) → Has (x ∷ xs) y → (x ≡ y) ⊎ Has xs y
+pub has_cases : {E : Type 0} (x y : E) (xs : List E) → ContainsAt (x ∷ xs) y → (x ≡ y) ⊎ ContainsAt xs y
 has_cases x y xs (zero, lt, is) = inl (is y)
 has_cases x y xs (suc k, lt, is) = inr (k, omega arith, is)
 
@@ -100,12 +100,12 @@ open_is L d j w = go (L j)
     go (Some x) h = absurd (none≢some refl h)
 
 module _ (K : Kind) (d : ℕ → Option ℕ) (l : ℕ) where
-  adding_old : (j : ℕ) (o : Option ℕ) (hs : List Node) (x : Node) → Has hs x → Has (adding K l j o hs) x
+  adding_old : (j : ℕ) (o : Option ℕ) (hs : List Node) (x : Node) → ContainsAt hs x → ContainsAt (adding K l j o hs) x
   adding_old j None hs x p = p
   adding_old j (Some w) hs x p = has_next _ x _ p
 
-  adding_only : (j : ℕ) (o : Option ℕ) (hs : List Node) (x : Node) → d j ≡ o → Has (adding K l j o hs) x
-      → Has hs x ⊎ ((w : ℕ) × (d x.position ≡ Some w) × (x.length ≡ K.join l w))
+  adding_only : (j : ℕ) (o : Option ℕ) (hs : List Node) (x : Node) → d j ≡ o → ContainsAt (adding K l j o hs) x
+      → ContainsAt hs x ⊎ ((w : ℕ) × (d x.position ≡ Some w) × (x.length ≡ K.join l w))
   adding_only j None hs x q p = inl p
   adding_only j (Some w) hs x q p =
       ⊎_elim (λ (e : node (K.join l w) j ≡ x). inr (w, ap (λ (y : Node). d y.position) (sym e) ∙ q, ap (λ (y : Node). y.length) (sym e)))
@@ -116,32 +116,32 @@ module _ (K : Kind) (d : ℕ → Option ℕ) (l : ℕ) where
   adding_shuffled j (Some w) hs ts s = IsPermutation-cons _ _ _ s
 
   module _ (hs : List Node) where
-    positions_old : (k : ℕ) (x : Node) → Has hs x → Has (adding_positions K d l k hs) x
+    positions_old : (k : ℕ) (x : Node) → ContainsAt hs x → ContainsAt (adding_positions K d l k hs) x
     unfolding adding_positions
     positions_old zero x p = p
     positions_old (suc k) x p = adding_old (suc k) (d (suc k)) _ x (positions_old k x p)
 
-    positions_new : (k j w : ℕ) → 0 < j → j ≤ k → d j ≡ Some w → Has (adding_positions K d l k hs) (node (K.join l w) j)
+    positions_new : (k j w : ℕ) → 0 < j → j ≤ k → d j ≡ Some w → ContainsAt (adding_positions K d l k hs) (node (K.join l w) j)
     unfolding adding_positions
     positions_new zero j w a b q = absurd (omega arith)
     positions_new (suc k) j w a b q =
         ⊎_elim (λ (e : j ≡ suc k). let s : d (suc k) ≡ Some w = rw e at q in rw (s, e) (has_first _ _))
         (λ n. adding_old (suc k) (d (suc k)) _ _ (positions_new k j w a (omega arith) q)) (cases_eq j (suc k))
 
-    positions_only : (k : ℕ) (x : Node) → Has (adding_positions K d l k hs) x → Has hs x ⊎ ((w : ℕ) × (d x.position ≡ Some w) × (x.length ≡ K.join l w))
+    positions_only : (k : ℕ) (x : Node) → ContainsAt (adding_positions K d l k hs) x → ContainsAt hs x ⊎ ((w : ℕ) × (d x.position ≡ Some w) × (x.length ≡ K.join l w))
     unfolding adding_positions
     positions_only zero x p = inl p
     positions_only (suc k) x p = ⊎_elim (positions_only k x) inr (adding_only (suc k) (d (suc k)) _ x refl p)
 
     -- what waited waits, each node to which a leg leads waits, and no other
-    pub all_old : (k : ℕ) (x : Node) → Has hs x → Has (adding_all K d l k hs) x
+    pub all_old : (k : ℕ) (x : Node) → ContainsAt hs x → ContainsAt (adding_all K d l k hs) x
     all_old k x p = adding_old 31 (d 31) _ x (positions_old k x p)
 
-    pub all_new : (k j w : ℕ) → Target k j → d j ≡ Some w → Has (adding_all K d l k hs) (node (K.join l w) j)
+    pub all_new : (k j w : ℕ) → Target k j → d j ≡ Some w → ContainsAt (adding_all K d l k hs) (node (K.join l w) j)
     all_new k j w (inl t) q = adding_old 31 (d 31) _ _ (positions_new k j w t.0 t.1 q)
     all_new k j w (inr t) q = let s : d 31 ≡ Some w = rw t at q in rw (s, t) (has_first _ _)
 
-    pub all_only : (k : ℕ) (x : Node) → Has (adding_all K d l k hs) x → Has hs x ⊎ ((w : ℕ) × (d x.position ≡ Some w) × (x.length ≡ K.join l w))
+    pub all_only : (k : ℕ) (x : Node) → ContainsAt (adding_all K d l k hs) x → ContainsAt hs x ⊎ ((w : ℕ) × (d x.position ≡ Some w) × (x.length ≡ K.join l w))
     all_only k x p = ⊎_elim (positions_only k x) inr (adding_only 31 (d 31) _ x refl p)
 
     -- the loop over the positions

@@ -1,6 +1,6 @@
 -- What the run over legs keeps: the nodes that are reached, those that wait, and how many they are.
 use Rattle.std.specs.Prelude.{◌≡◌, ℕ, zero, suc, ◌+◌, ◌≤◌, List, ◌∷◌, length, Some, None, Option}
-use Rattle.std.specs.List.{ContainsAt as Has}
+use Rattle.std.specs.List.{ContainsAt}
 use Rattle.lengths.specs.Kinds.{Kind}
 use Rattle.entries.specs.declared.Node.{Node}
 use Rattle.entries.specs.Records.{node}
@@ -60,7 +60,7 @@ pub record Searched (K : Kind) (D : Legs) (k : ℕ) (L : Lengths) (hs : List Nod
   pub kept : Invariant K (grid D) 0 table
   pub shows : (v : ℕ) → length_of (table v) ≡ L v
   -- what waits is offered by a leg, and what a leg offers to a node that is not reached waits
-  pub offered : (x : Node) → Has hs x → Offered K D table x
-  pub waits : (i j w : ℕ) (t : Entry) → D i j ≡ Some w → table i ≡ Some t → table j ≡ None → Has hs (node (K.join t.1 w) j)
+  pub offered : (x : Node) → ContainsAt hs x → Offered K D table x
+  pub waits : (i j w : ℕ) (t : Entry) → D i j ≡ Some w → table i ≡ Some t → table j ≡ None → ContainsAt hs (node (K.join t.1 w) j)
   -- one entry for each node from the start, and one for each pair of later nodes, are enough
   pub few : length hs + pairs (unreached L k) ≤ suc k + pairs (suc k)

@@ -11,7 +11,7 @@
 
 ghost use Rattle.std.specs.Prelude.{◌≡◌, ℕ, ◌+◌, ◌<◌, ◌≤◌, ◌∷◌, length, is_some, Some, None, nat_eq};
 ghost use Rattle.std.specs.Map.{update};
-ghost use Rattle.std.specs.List.{AllByRecursion as All};
+ghost use Rattle.std.specs.List.{AllByRecursion};
 ghost use Rattle.std.specs.List.Sorted.{IsPermutation};
 ghost use Rattle.queue.specs.Queues.{held, room, Ordered};
 ghost use Rattle.entries.specs.Records.{NodeAhead};
@@ -184,7 +184,7 @@ fn visit<K: Length>(
     requires ordered { Ordered (NodeAhead K.Length.kind) queue.old }
     requires fits { 153 ≤ room queue.old }
     requires underway { Searched K.Length.kind (leg_of legs.now) (positions_of legs.now) (length_at reached.old) (best ∷ held queue.old) }
-    requires best { All (NodeAhead K.Length.kind best) (held queue.old) }
+    requires best { AllByRecursion (NodeAhead K.Length.kind best) (held queue.old) }
     ensures ordered { Ordered (NodeAhead K.Length.kind) queue.new }
     ensures room { room queue.new ≡ room queue.old }
     ensures lender { queue.new.places.ghost_name ≡ queue.old.places.ghost_name }

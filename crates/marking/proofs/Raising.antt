@@ -1,7 +1,7 @@
 -- Counts raised and lowered along a rising list of positions.
 use Rattle.std.proofs.Common.{◌≡◌, ℕ, zero, suc, ◌+◌, ◌-◌, ◌<◌, ◌≤◌, Bool, true, false, ◌||◌, eqb, List, [], ◌∷◌, ◌++◌, length, get_or, take, set, sym, refl, ap, ◌∙◌, subst, ⊎_elim, arith}
 use mathlib.Core.Bool.{or-false, or_assoc}
-use Rattle.std.specs.List.{AllByRecursion as All}
+use Rattle.std.specs.List.{AllByRecursion}
 use Rattle.std.proofs.ByRecursion.{All-get_or}
 use Rattle.std.proofs.lemmas.List.{get_or-set_same, get_or-set_other, get_or-take, length-take-le, take_all, take_more}
 use Rattle.std.proofs.lemmas.Bool.{cases_eq, eq-eqb, ne_eqb, eqb-true, or_from, both_ways}
@@ -20,7 +20,7 @@ member_push [] p i = or-false (eqb p i)
 member_push (x ∷ xs) p i = ap (λ b. eqb x i || b) (member_push xs p i) ∙ sym (or_assoc (eqb x i) (member xs i) (eqb p i))
 
 -- no number of a rising list stands before its place
-after_all_lem : (x i : ℕ) (xs : List ℕ) → All (λ y. x < y) xs → i < length xs → x < get_or xs i 0
+after_all_lem : (x i : ℕ) (xs : List ℕ) → AllByRecursion (λ y. x < y) xs → i < length xs → x < get_or xs i 0
 after_all_lem x i [] h lt = absurd (omega arith)
 after_all_lem x zero (y ∷ ys) h lt = h.0
 after_all_lem x (suc i) (y ∷ ys) h lt = after_all_lem x i ys h.1 (omega arith)

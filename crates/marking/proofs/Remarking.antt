@@ -1,7 +1,7 @@
 -- A street closed or reopened: the tables still fit, and the moment is the one after.
 use Rattle.std.proofs.Common.{◌≡◌, ℕ, ◌-◌, ◌<◌, ◌≤◌, Bool, true, false, not, List, length, get_or, set, is_some, Some, None, Option, sym, refl, ap, ◌∙◌, subst, ⊎_elim, arith}
 use native.Mathlib.Decide.{dec_le}
-use Rattle.std.specs.List.{AllByRecursion as All}
+use Rattle.std.specs.List.{AllByRecursion}
 use Rattle.std.proofs.ByRecursion.{All-from_get_or}
 use Rattle.std.proofs.lemmas.Bool.{cases_Bool, true≢false, cond-true, cond-false, not_from_true}
 use Rattle.maps.specs.Graph.{Street, Graph, LawfulMap}
@@ -51,7 +51,7 @@ pub reopen_free : (G : Graph) (F : ℕ → Bool) (e : ℕ) → is_some (G.street
 reopen_free G F e p shut = cond-false (not (is_some (G.street e))) _ _ (not_from_true _ p) ∙ cond-true (F e) _ _ shut
 
 -- ---- the row of a slot
-all_members : (P : ℕ → Type 0) (xs : List ℕ) → ((i : ℕ) → member xs i ≡ true → P i) → All P xs
+all_members : (P : ℕ → Type 0) (xs : List ℕ) → ((i : ℕ) → member xs i ≡ true → P i) → AllByRecursion P xs
 all_members P xs h = All-from_get_or P xs 0 (λ k lt. h (get_or xs k 0) (member_found xs k (get_or xs k 0) lt refl))
 
 module _ (K : Kind) (lawK : LawfulKind K) (G : Graph) (lawG : LawfulMap G) (x : Tables) (fits : IndexFits K G x) (room : length x.transit ≡ 16) (e : ℕ) (lo : 0 < e) (hi : e ≤ 512) where

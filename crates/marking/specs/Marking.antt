@@ -1,6 +1,6 @@
 -- What closing or reopening a street leaves in the tables, and how the counts of the stored trees follow.
 use Rattle.std.specs.Prelude.{◌≡◌, ℕ, ◌+◌, ◌-◌, ◌<◌, ◌≤◌, Bool, cond, List, slice_index_or, slice_set}
-use Rattle.std.specs.List.{AllByRecursion as All}
+use Rattle.std.specs.List.{AllByRecursion}
 use Rattle.walks.specs.Streets.{member}
 use Rattle.asks.specs.Held.{bit}
 use Rattle.asks.specs.Index.{Rising}
@@ -17,7 +17,7 @@ pub record Raised (ps : List ℕ) (old new : List TreeRecord) : Type 0 where
 -- a row of rising positions from 1 to 16
 pub record Within (h : Holders) : Type 0 where
   pub few : h.count ≤ 16
-  pub positions : All (λ i. (0 < i) × (i ≤ 16)) (list_of h)
+  pub positions : AllByRecursion (λ i. (0 < i) × (i ≤ 16)) (list_of h)
   pub rising : Rising (list_of h)
 
 -- the mark of slot e is b, and the trees that hold the slot count one more (closed) or one less (reopened); all else is as before

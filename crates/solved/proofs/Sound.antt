@@ -1,6 +1,6 @@
 -- An example that passes its test stands.
 use Rattle.std.proofs.Common.{◌≡◌, ℕ, Bool, true, false, cond, ◌&&◌, eqb, List, [], ◌∷◌, Some, None, Ok, Err, Option, refl, subst}
-use Rattle.std.specs.List.{AllByRecursion as All}
+use Rattle.std.specs.List.{AllByRecursion}
 use Rattle.std.proofs.lemmas.Slice.Eq.{bytes_eq-Decides}
 use Rattle.std.proofs.lemmas.Bool.{and_parts, eqb-true, false≢true}
 use Rattle.maps.specs.Graph.{Graph, LawfulMap}
@@ -112,6 +112,6 @@ stands law r h =
     let p = and_parts (is_judged (file_of r) (number_of r)) (tests_map r) h in
     record { file = judged_so (file_of r) (number_of r) p.0; map = of_map law r p.0 p.1 }
 
-pub all_stand : KindsLawful → (rs : List Row) → every test rs ≡ true → All Stands rs
+pub all_stand : KindsLawful → (rs : List Row) → every test rs ≡ true → AllByRecursion Stands rs
 all_stand law [] h = tt
 all_stand law (r ∷ rs) h = let p = and_parts (test r) (every test rs) h in (stands law r p.0, all_stand law rs p.1)

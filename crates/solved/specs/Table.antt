@@ -1,6 +1,6 @@
 -- The table of solved examples.
 use Rattle.std.specs.Prelude.{ℕ, List, [], ◌∷◌, ◌++◌, replicate, Some, None}
-use Rattle.std.specs.List.{AllByRecursion as All}
+use Rattle.std.specs.List.{AllByRecursion}
 use Rattle.samples.specs.Files.{four_junctions, two_ways, two_cells}
 use Rattle.calls.specs.declared.Fault.TheVariants.{OffMap, AlreadyNamed, ListFull, SlotAbsent, AlreadyClosed, NotClosed, EndOffMap, StateLacks}
 use Rattle.calls.specs.declared.Call.{Call}
@@ -164,4 +164,4 @@ table = answers ++ trees ++ files
 
 -- every example of the table stands
 abbrev pub Solved : Type 0
-Solved = All Stands table
+Solved = AllByRecursion Stands table

@@ -8,7 +8,7 @@
 #![tactic(auto)]
 
 ghost use Rattle.std.specs.Prelude.{◌≡◌, ℕ, ◌+◌, ◌-◌, ◌<◌, ◌≤◌, [], ◌∷◌, ◌++◌, length, if◌then◌else◌, slice_index_or};
-ghost use Rattle.std.specs.List.{AllByRecursion as All};
+ghost use Rattle.std.specs.List.{AllByRecursion};
 ghost use Rattle.walks.specs.Trees.{OnMap, tree as tree_of, holds_street};
 ghost use Rattle.asks.specs.Held.{closed_held};
 ghost use Rattle.legs.specs.Tables.{positions_of, leg_of};
@@ -50,7 +50,7 @@ fn store_trees<M: Map, K: Zeroed>(
     trees: &mut [TreeRecord; 16],
 )
     requires few { length transit.now ≤ 16 }
-    requires on_map { All (OnMap (M.Map.graph map.now)) transit.now }
+    requires on_map { AllByRecursion (OnMap (M.Map.graph map.now)) transit.now }
     ensures { TreesStored K.Length.kind (M.Map.graph map.now) transit.now (closed_in closed.now) trees.new (length transit.now) }
 {
     for i in 0..transit.len() {

@@ -4,7 +4,7 @@ use Rattle.std.proofs.lemmas.Bool.{cases_eq, cases_Bool, eq-eqb, eqb-true, ne_eq
 use Rattle.std.proofs.lemmas.Map.{update_here, update_apart}
 use Rattle.std.proofs.ByRecursion.{all-has, has_shuffled}
 use Rattle.std.proofs.lemmas.List.Sorted.{length_permutation, IsPermutation-sym}
-use Rattle.std.specs.List.{ContainsAt as Has, AllByRecursion as All}
+use Rattle.std.specs.List.{ContainsAt, AllByRecursion}
 use Rattle.std.specs.List.Sorted.{IsPermutation}
 use Rattle.maps.specs.Graph.{Street}
 use Rattle.lengths.specs.Kinds.{Kind, LawfulKind, Code}
@@ -21,13 +21,13 @@ use Rattle.entries.specs.Ranking.{both_codes, ranked_self}
 use Rattle.trees.specs.Candidates.{if_leaves, leaving, if_unsettled, unsettled_heads, with_street, with_streets, one_if_unsettled, unsettled_tail, unsettled_tails, Underway}
 
 -- ---- lists
-has_first : {E : Type 0} (x : E) (xs : List E) → Has (x ∷ xs) x
+has_first : {E : Type 0} (x : E) (xs : List E) → ContainsAt (x ∷ xs) x
 has_first x xs = (0, omega arith, λ d. refl)
 
-has_next : {E : Type 0} (x y : E) (xs : List E) → Has xs y → Has (x ∷ xs) y
+has_next : {E : Type 0} (x y : E) (xs : List E) → ContainsAt xs y → ContainsAt (x ∷ xs) y
 has_next x y xs h = (suc h.0, omega arith, λ d. h.2 d)
 
-has_cases : {E : Type 0} (x y : E) (xs : List E) → Has (x ∷ xs) y → (x ≡ y) ⊎ Has xs y
+has_cases : {E : Type 0} (x y : E) (xs : List E) → ContainsAt (x ∷ xs) y → (x ≡ y) ⊎ ContainsAt xs y
 has_cases x y xs (zero, lt, is) = inl (is y)
 has_cases x y xs (suc k, lt, is) = inr (k, omega arith, is)
 
@@ -53,30 +53,30 @@ module _ (v : ℕ) (T : Table) (g : Streets) where
 
 -- ---- what `with_streets` holds
 module _ (K : Kind) (h : Streets) (l : ℕ) (cs : List Candidate) where
-  with_old : (k : ℕ) (c : Candidate) → Has cs c → Has (with_streets K h l k cs) c
+  with_old : (k : ℕ) (c : Candidate) → ContainsAt cs c → ContainsAt (with_streets K h l k cs) c
   with_old zero c p = p
   with_old (suc k) c p = go (h (suc k)) (with_old k c p)
     where
-      go : (o : Option Street) → Has (with_streets K h l k cs) c → Has (with_street K l (suc k) o (with_streets K h l k cs)) c
+      go : (o : Option Street) → ContainsAt (with_streets K h l k cs) c → ContainsAt (with_street K l (suc k) o (with_streets K h l k cs)) c
       go None q = q
       go (Some a) q = has_next _ c _ q
 
-  with_new : (k e : ℕ) (a : Street) → 0 < e → e ≤ k → h e ≡ Some a → Has (with_streets K h l k cs) (candidate (K.join l a.2) e)
+  with_new : (k e : ℕ) (a : Street) → 0 < e → e ≤ k → h e ≡ Some a → ContainsAt (with_streets K h l k cs) (candidate (K.join l a.2) e)
   with_new zero e a lo hi q = absurd (omega arith)
   with_new (suc k) e a lo hi q =
       ⊎_elim (λ j. go (h (suc k)) (with_new k e a lo j q))
       (λ (j : e ≡ suc k). let s : h (suc k) ≡ Some a = rw j at q in rw (s, j) (has_first _ _)) (le_more e k hi)
     where
-      go : (o : Option Street) → Has (with_streets K h l k cs) (candidate (K.join l a.2) e) → Has (with_street K l (suc k) o (with_streets K h l k cs)) (candidate (K.join l a.2) e)
+      go : (o : Option Street) → ContainsAt (with_streets K h l k cs) (candidate (K.join l a.2) e) → ContainsAt (with_street K l (suc k) o (with_streets K h l k cs)) (candidate (K.join l a.2) e)
       go None p = p
       go (Some x) p = has_next _ _ _ p
 
-  with_only : (k : ℕ) (c : Candidate) → Has (with_streets K h l k cs) c → Has cs c ⊎ ((a : Street) × (h c.slot ≡ Some a) × (c.length ≡ K.join l a.2))
+  with_only : (k : ℕ) (c : Candidate) → ContainsAt (with_streets K h l k cs) c → ContainsAt cs c ⊎ ((a : Street) × (h c.slot ≡ Some a) × (c.length ≡ K.join l a.2))
   with_only zero c p = inl p
   with_only (suc k) c p = go (h (suc k)) refl (with_only k c) p
     where
-      go : (o : Option Street) → h (suc k) ≡ o → (Has (with_streets K h l k cs) c → Has cs c ⊎ ((a : Street) × (h c.slot ≡ Some a) × (c.length ≡ K.join l a.2)))
-          → Has (with_street K l (suc k) o (with_streets K h l k cs)) c → Has cs c ⊎ ((a : Street) × (h c.slot ≡ Some a) × (c.length ≡ K.join l a.2))
+      go : (o : Option Street) → h (suc k) ≡ o → (ContainsAt (with_streets K h l k cs) c → ContainsAt cs c ⊎ ((a : Street) × (h c.slot ≡ Some a) × (c.length ≡ K.join l a.2)))
+          → ContainsAt (with_street K l (suc k) o (with_streets K h l k cs)) c → ContainsAt cs c ⊎ ((a : Street) × (h c.slot ≡ Some a) × (c.length ≡ K.join l a.2))
       go None q i p = i p
       go (Some a) q i p =
           ⊎_elim (λ (e : candidate (K.join l a.2) (suc k) ≡ c). inr (a, ap (λ (x : Candidate). h x.slot) (sym e) ∙ q, ap (λ (x : Candidate). x.length) (sym e)))
@@ -120,14 +120,14 @@ tails_few g T (suc k) = go (g (suc k)) (tails_few g T k)
 
 -- ---- what is known of the candidates, and that all are held
 abbrev Known : Kind → Streets → Table → List Candidate → Type 0
-Known K g T cs = (c : Candidate) → Has cs c → (a : Street) × (t : Entry) × (g c.slot ≡ Some a) × (T a.0 ≡ Some t) × (c.length ≡ K.join t.1 a.2)
+Known K g T cs = (c : Candidate) → ContainsAt cs c → (a : Street) × (t : Entry) × (g c.slot ≡ Some a) × (T a.0 ≡ Some t) × (c.length ≡ K.join t.1 a.2)
 
 module _ (K : Kind) (g : Streets) (n m : ℕ) (map : CodedStreets g n m) (r : ℕ) where
   -- after v is settled: the streets into v may be missing before
   module _ (T : Table) (v : ℕ) (b : Entry) (un : T v ≡ None) (cs ts : List Candidate)
       (s : IsPermutation (with_streets K (leaving v (unsettled_heads (settle T (Some (v, b.0, b.1))) g)) b.1 m cs) ts)
       (known : Known K g T cs)
-      (all : (e : ℕ) (a : Street) (t : Entry) → g e ≡ Some a → T a.0 ≡ Some t → T a.1 ≡ None → (a.1 ≡ v → ⊥) → Has cs (candidate (K.join t.1 a.2) e))
+      (all : (e : ℕ) (a : Street) (t : Entry) → g e ≡ Some a → T a.0 ≡ Some t → T a.1 ≡ None → (a.1 ≡ v → ⊥) → ContainsAt cs (candidate (K.join t.1 a.2) e))
       (few : length cs + unsettled_tails g T m ≤ m) (k : ℕ) (is : settle T (Some (v, b.0, b.1)) ≡ table_after K g m r k) where
     known_more : Known K g (settle T (Some (v, b.0, b.1))) ts
     known_more c h =
@@ -138,7 +138,7 @@ module _ (K : Kind) (g : Streets) (n m : ℕ) (map : CodedStreets g n m) (r : �
         (with_only K (leaving v (unsettled_heads (settle T (Some (v, b.0, b.1))) g)) b.1 cs m c (has_shuffled _ _ c (IsPermutation-sym _ _ s) h))
 
     all_more : (e : ℕ) (a : Street) (t : Entry) → g e ≡ Some a → settle T (Some (v, b.0, b.1)) a.0 ≡ Some t → settle T (Some (v, b.0, b.1)) a.1 ≡ None
-        → Has ts (candidate (K.join t.1 a.2) e)
+        → ContainsAt ts (candidate (K.join t.1 a.2) e)
     all_more e a t q p u =
         let w = map.slots e a q in
         let U = settle T (Some (v, b.0, b.1)) in
@@ -179,8 +179,8 @@ module _ (K : Kind) (g : Streets) (n m : ℕ) (map : CodedStreets g n m) (r : �
               (λ z. z) (has_cases c _ cs (i.all e d t u v w));
         }
 
-    module _ (law : LawfulKind K) (best : All (CandidateAhead K c) cs) (a : Street) (q : g c.slot ≡ Some a) (un : T a.1 ≡ None) where
-      codes : (d : Candidate) → Has (c ∷ cs) d → Code d.length
+    module _ (law : LawfulKind K) (best : AllByRecursion (CandidateAhead K c) cs) (a : Street) (q : g c.slot ≡ Some a) (un : T a.1 ≡ None) where
+      codes : (d : Candidate) → ContainsAt (c ∷ cs) d → Code d.length
       codes d h =
           let y = i.known d h in
           let t = (invariant_after K law g n m map r i.after.0).codes y.0.0 y.1 (subst (λ (X : Table). X y.0.0 ≡ Some y.1) i.after.1 y.3) in

@@ -1,6 +1,6 @@
 -- The street candidates that are held while a run is underway.
 use Rattle.std.specs.Prelude.{◌≡◌, ℕ, zero, suc, ◌+◌, ◌≤◌, cond, List, ◌∷◌, length, is_some, Some, None, Option, ◌==◌}
-use Rattle.std.specs.List.{ContainsAt as Has}
+use Rattle.std.specs.List.{ContainsAt}
 use Rattle.maps.specs.Graph.{Street}
 use Rattle.lengths.specs.Kinds.{Kind}
 use Rattle.walks.specs.Streets.{Streets, omit_if}
@@ -56,8 +56,8 @@ pub record Underway (K : Kind) (g : Streets) (m r : ℕ) (T : Table) (cs : List 
   -- some number of steps leads to T
   pub after : (k : ℕ) × (T ≡ table_after K g m r k)
   -- each candidate is a street of a settled tail, with its tail's length joined with its own
-  pub known : (c : Candidate) → Has cs c → (a : Street) × (t : Entry) × (g c.slot ≡ Some a) × (T a.0 ≡ Some t) × (c.length ≡ K.join t.1 a.2)
+  pub known : (c : Candidate) → ContainsAt cs c → (a : Street) × (t : Entry) × (g c.slot ≡ Some a) × (T a.0 ≡ Some t) × (c.length ≡ K.join t.1 a.2)
   -- each street of a settled tail with an unsettled head is held
-  pub all : (e : ℕ) (a : Street) (t : Entry) → g e ≡ Some a → T a.0 ≡ Some t → T a.1 ≡ None → Has cs (candidate (K.join t.1 a.2) e)
+  pub all : (e : ℕ) (a : Street) (t : Entry) → g e ≡ Some a → T a.0 ≡ Some t → T a.1 ≡ None → ContainsAt cs (candidate (K.join t.1 a.2) e)
   -- the candidates held and the streets whose tail is unsettled are no more than there are slots
   pub few : length cs + unsettled_tails g T m ≤ m

@@ -11,7 +11,7 @@
 ghost use Rattle.std.specs.Prelude.{◌≡◌, ℕ, ◌<◌, ◌≤◌, true, false, is_some, Some, None};
 ghost use Rattle.maps.specs.Graph.{reversed};
 ghost use Rattle.walks.specs.Streets.{empty_set, member};
-ghost use Rattle.walks.specs.Runs.{settle as settled-by, bounded_run};
+ghost use Rattle.walks.specs.Runs.{settle as settled_by, bounded_run};
 ghost use Rattle.walks.specs.Trees.{OnMap, tree as tree_of};
 ghost use Rattle.trees.specs.Marks.{closed_in};
 ghost use Rattle.trees.specs.Trees.{table_of};
@@ -78,7 +78,7 @@ impl BoundedTree {
     // Settles junction v.
     fn settle(&mut self, v: u16, slot: u16, length: u64)
         requires { (0 < v) × (v ≤ 128) }
-        ensures { table_of self.new ≡ settled-by (table_of self.old) (Some (v, slot, length)) }
+        ensures { table_of self.new ≡ settled_by (table_of self.old) (Some (v, slot, length)) }
     {
         let i = v as usize - 1;
         self.settled[i] = true;

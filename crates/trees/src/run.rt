@@ -1,7 +1,7 @@
 // The bounded run in its steps: candidates are put for the streets of each settled junction, and the best candidate
 // settles its head.
 ghost use Rattle.std.specs.Prelude.{◌≡◌, ℕ, ◌+◌, ◌-◌, ◌<◌, ◌≤◌, true, false, not, ◌||◌, [], ◌∷◌, length, ◌==◌};
-ghost use Rattle.std.specs.List.{AllByRecursion as All};
+ghost use Rattle.std.specs.List.{AllByRecursion};
 ghost use Rattle.std.specs.List.Sorted.{IsPermutation};
 ghost use Rattle.walks.specs.Streets.{member, without};
 ghost use Rattle.walks.specs.Runs.{bounded_run};
@@ -123,7 +123,7 @@ fn turn<M: Map, K: Length>(
     requires ordered { Ordered (CandidateAhead K.Length.kind) queue.old }
     requires fits { 512 ≤ room queue.old }
     requires underway { Underway K.Length.kind (streets_within (M.Map.graph map.now) limits.now) (M.Map.graph map.now).slots limits.now.root (table_of tree.old) (best ∷ held queue.old) }
-    requires best { All (CandidateAhead K.Length.kind best) (held queue.old) }
+    requires best { AllByRecursion (CandidateAhead K.Length.kind best) (held queue.old) }
     ensures ordered { Ordered (CandidateAhead K.Length.kind) queue.new }
     ensures room { room queue.new ≡ room queue.old }
     ensures lender { queue.new.places.ghost_name ≡ queue.old.places.ghost_name }

@@ -1,7 +1,7 @@
 -- Walks over some of the streets, and the streets that a bounded run may take.
 use Rattle.std.proofs.Common.{◌≡◌, ℕ, Bool, true, false, cond, not, ◌||◌, eqb, ◌⊎◌, List, [], ◌∷◌, Some, None, Option, refl, inl, inr, ⊎_elim}
 use Rattle.std.proofs.lemmas.Bool.{eqb-true, eq-eqb, or_cases, or_left, or_right, not-true}
-use Rattle.std.specs.List.{AllByRecursion as All}
+use Rattle.std.specs.List.{AllByRecursion}
 use Rattle.maps.specs.Graph.{Street, Graph}
 use Rattle.lengths.specs.Kinds.{Kind}
 use Rattle.walks.specs.Streets.{Streets, member, without, omit_if, bounded_to, bounded_at, run_streets, CodedStreets, Coded}
@@ -27,12 +27,12 @@ length_sub K h g p b s (e ∷ w) t l =
     rw (l.1, p e l.0 l.1) (length_sub K h g p (K.join b l.0.2) l.0.1 w t l.3)
 
 -- a walk of g whose every street h has is a walk of h
-pub walk_into : (h g : Streets) (P : ℕ → Type 0) → ((e : ℕ) (a : Street) → P e → g e ≡ Some a → h e ≡ Some a) → (s : ℕ) (w : List ℕ) (t : ℕ) → Walk g s w t → All P w → Walk h s w t
+pub walk_into : (h g : Streets) (P : ℕ → Type 0) → ((e : ℕ) (a : Street) → P e → g e ≡ Some a → h e ≡ Some a) → (s : ℕ) (w : List ℕ) (t : ℕ) → Walk g s w t → AllByRecursion P w → Walk h s w t
 walk_into h g P k s [] t l q = l
 walk_into h g P k s (e ∷ w) t l q = (l.0, k e l.0 q.0 l.1, l.2, walk_into h g P k l.0.1 w t l.3 q.1)
 
 -- each street of a walk of h has what every street of h has
-pub walk_all : (h : Streets) (P : ℕ → Type 0) → ((e : ℕ) (a : Street) → h e ≡ Some a → P e) → (s : ℕ) (w : List ℕ) (t : ℕ) → Walk h s w t → All P w
+pub walk_all : (h : Streets) (P : ℕ → Type 0) → ((e : ℕ) (a : Street) → h e ≡ Some a → P e) → (s : ℕ) (w : List ℕ) (t : ℕ) → Walk h s w t → AllByRecursion P w
 walk_all h P k s [] t l = tt
 walk_all h P k s (e ∷ w) t l = (k e l.0 l.1, walk_all h P k l.0.1 w t l.3)
 

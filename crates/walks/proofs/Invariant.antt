@@ -2,7 +2,7 @@
 use Rattle.std.proofs.Common.{◌≡◌, ℕ, true, ◌⊎◌, List, [], ◌∷◌, ◌++◌, Some, None, Option, sym, refl, ap, ◌∙◌, ap₂, ⊎_elim}
 use Rattle.std.proofs.lemmas.Map.{update_here, update_apart}
 use Rattle.std.proofs.ByRecursion.{All-append, All-weaker}
-use Rattle.std.specs.List.{AllByRecursion as All}
+use Rattle.std.specs.List.{AllByRecursion}
 use Rattle.maps.specs.Graph.{Street}
 use Rattle.lengths.specs.Kinds.{Kind, LawfulKind, Code}
 use Rattle.walks.specs.Streets.{Streets}
@@ -21,7 +21,7 @@ pub record Reached (K : Kind) (g : Streets) (r : ℕ) (T : Table) (v l : ℕ) : 
   pub way : List ℕ
   pub leads : Walk g r way v
   pub long : walk_length K g way ≡ l
-  pub tree : All (Settles T) way
+  pub tree : AllByRecursion (Settles T) way
 
 -- what every step keeps: settled lengths are codes, and the root is settled; a settled length is no worse than every candidate's,
 -- and no worse than what any street from a settled tail gives; and it is the length of a walk

@@ -1,7 +1,7 @@
 -- Pieces: open walks that pass no transit node on the way, and how the runs bound them.
 use Rattle.std.proofs.Common.{◌≡◌, ℕ, ◌<◌, ◌≤◌, Bool, true, false, ◌⊎◌, List, [], ◌∷◌, ◌++◌, Some, refl, inl, inr}
 use Rattle.std.proofs.ByRecursion.{All-append, All-weaker}
-use Rattle.std.specs.List.{AllByRecursion as All}
+use Rattle.std.specs.List.{AllByRecursion}
 use Rattle.maps.specs.Graph.{Street, Graph}
 use Rattle.lengths.specs.Kinds.{Kind}
 use Rattle.walks.specs.Streets.{Streets, member}
@@ -18,7 +18,7 @@ Plain g N e = (a : Street) → g e ≡ Some a → N a.0 ≡ false
 -- the streets after the first leave no transit node
 abbrev pub Inner : Streets → (ℕ → Bool) → List ℕ → Type 0
 Inner g N [] = Unit {0}
-Inner g N (e ∷ w) = All (Plain g N) w
+Inner g N (e ∷ w) = AllByRecursion (Plain g N) w
 
 -- an open walk from u to v past no transit node
 pub record Piece (g : Streets) (N F : ℕ → Bool) (u v : ℕ) (w : List ℕ) : Type 0 where
@@ -68,13 +68,13 @@ module _ (G : Graph) (ns : List ℕ) (F : ℕ → Bool) where
   abbrev Into : ℕ → ℕ → Type 0
   Into v e = (a : Street) → G.street e ≡ Some a → (a.1 ≡ v) ⊎ (member ns a.1 ≡ false)
 
-  ends : (u : ℕ) (w : List ℕ) (v : ℕ) → Walk G.street u w v → All (Plain G.street (member ns)) w → ((u ≡ v) ⊎ (member ns u ≡ false)) × All (Into v) w
+  ends : (u : ℕ) (w : List ℕ) (v : ℕ) → Walk G.street u w v → AllByRecursion (Plain G.street (member ns)) w → ((u ≡ v) ⊎ (member ns u ≡ false)) × AllByRecursion (Into v) w
   ends u [] v l i = (inl l, tt)
   ends u (e ∷ w) v l i =
       let r = ends l.0.1 w v l.3 i.1 in
       (inr (rw l.2 at (i.0 l.0 l.1)), ((λ a q. rw (same_some q l.1) r.0), r.1))
 
-  pub piece_from : (u v : ℕ) (w : List ℕ) → Piece G.street (member ns) F u v w → All (UsableFrom G ns F u) w
+  pub piece_from : (u v : ℕ) (w : List ℕ) → Piece G.street (member ns) F u v w → AllByRecursion (UsableFrom G ns F u) w
   piece_from u v [] p = tt
   piece_from u v (e ∷ w) p =
       let l = p.leads in
@@ -83,7 +83,7 @@ module _ (G : Graph) (ns : List ℕ) (F : ℕ → Bool) where
         All-weaker Q (UsableFrom G ns F u) (λ i h. (h.0, λ a q. inr (h.1 a q))) w (all_both (λ i. F i ≡ false) (Plain G.street (member ns)) w p.clear.1 p.inner),
       )
 
-  pub piece_to : (u v : ℕ) (w : List ℕ) → Piece G.street (member ns) F u v w → All (UsableTo G ns F v) w
+  pub piece_to : (u v : ℕ) (w : List ℕ) → Piece G.street (member ns) F u v w → AllByRecursion (UsableTo G ns F v) w
   piece_to u v [] p = tt
   piece_to u v (e ∷ w) p =
       let l = p.leads in

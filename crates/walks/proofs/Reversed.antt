@@ -1,7 +1,7 @@
 -- The run against the streets: walks turned round, and their lengths.
 use Rattle.std.proofs.Common.{◌≡◌, ℕ, Bool, List, [], ◌∷◌, ◌++◌, Some, None, Option, sym, refl, ap, ◌∙◌, ap₂}
 use Rattle.std.proofs.ByRecursion.{All-append, All-weaker}
-use Rattle.std.specs.List.{AllByRecursion as All}
+use Rattle.std.specs.List.{AllByRecursion}
 use Rattle.maps.specs.Graph.{Street, Graph, turned, reversed}
 use Rattle.lengths.specs.Kinds.{Kind, LawfulKind, Code}
 use Rattle.walks.specs.Streets.{Streets, Coded}
@@ -39,7 +39,7 @@ abbrev pub back : List ℕ → List ℕ
 back [] = []
 back (e ∷ w) = back w ++ e ∷ []
 
-pub all_back : (P : ℕ → Type 0) (w : List ℕ) → All P w → All P (back w)
+pub all_back : (P : ℕ → Type 0) (w : List ℕ) → AllByRecursion P w → AllByRecursion P (back w)
 all_back P [] h = tt
 all_back P (e ∷ w) h = All-append P (back w) (e ∷ []) (all_back P w h.1) (h.0, tt)
 

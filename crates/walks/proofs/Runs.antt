@@ -2,7 +2,7 @@
 use Rattle.std.proofs.Common.{◌≡◌, ℕ, ◌<◌, ◌≤◌, Bool, false, List, [], Some, None, Option, sym, refl, ap, ◌∙◌, inr, ⊎_elim, arith}
 use Rattle.std.proofs.lemmas.Bool.{cases_eq, cases_lt}
 use Rattle.std.proofs.ByRecursion.{All-weaker}
-use Rattle.std.specs.List.{AllByRecursion as All}
+use Rattle.std.specs.List.{AllByRecursion}
 use Rattle.maps.specs.Graph.{Street, Graph, Placed}
 use Rattle.lengths.specs.Kinds.{Kind, LawfulKind}
 use Rattle.walks.specs.Streets.{run_streets, Coded}
@@ -62,7 +62,7 @@ settled_on_map K law G map ns F r on v e l s =
 pub run_answers : RunAnswers
 run_answers K law G map F s t = go (bounded_run K G [] F s t) refl
   where
-    all : (w : List ℕ) → Open F w → All (UsableFrom G [] F s) w
+    all : (w : List ℕ) → Open F w → AllByRecursion (UsableFrom G [] F s) w
     all w o = All-weaker (λ e. F e ≡ false) (UsableFrom G [] F s) (λ e q. (q, λ a _. inr refl)) w o
 
     go : (x : Option Entry) → bounded_run K G [] F s t ≡ x → BestOpen K G.street F s t (length_of x)

@@ -1,6 +1,6 @@
 -- The theorems about walks, runs and legs, for every lawful kind and every map whose lengths are codes.
 use Rattle.std.specs.Prelude.{◌≡◌, ℕ, ◌≤◌, Bool, true, false, ◌⊎◌, List, length, Some, Option}
-use Rattle.std.specs.List.{AllByRecursion as All}
+use Rattle.std.specs.List.{AllByRecursion}
 use Rattle.maps.specs.Graph.{Street, Graph, LawfulMap, EqualStreets, reversed}
 use Rattle.lengths.specs.Kinds.{Kind, LawfulKind}
 use Rattle.walks.specs.Streets.{Streets, empty_set, member, Coded}
@@ -27,7 +27,7 @@ UsableTo G ns F r e = (F e ≡ false) × ((a : Street) → G.street e ≡ Some a
 abbrev pub RunSound : Type 0
 RunSound = (K : Kind) → LawfulKind K → (G : Graph) → Coded G → (ns : List ℕ) (F : ℕ → Bool) (r v e l : ℕ)
     → bounded_run K G ns F r v ≡ Some (e, l)
-    → (w : List ℕ) × Walk G.street r w v × All (UsableFrom G ns F r) w × All (Holds (bounded_run K G ns F r)) w × (walk_length K G.street w ≡ l)
+    → (w : List ℕ) × Walk G.street r w v × AllByRecursion (UsableFrom G ns F r) w × AllByRecursion (Holds (bounded_run K G ns F r)) w × (walk_length K G.street w ≡ l)
 
 -- the run's table is a tree: the root has slot 0 and length zero, and every other settled junction its length by a street into it from a settled one
 abbrev pub RunIsTree : Type 0
@@ -37,19 +37,19 @@ RunIsTree = (K : Kind) → LawfulKind K → (G : Graph) → Coded G → (ns : Li
 -- every junction to which a walk outside F and past no transit node but the root leads is settled, no worse than that walk
 abbrev pub RunComplete : Type 0
 RunComplete = (K : Kind) → LawfulKind K → (G : Graph) → Coded G → (ns : List ℕ) (F : ℕ → Bool) (r v : ℕ) (w : List ℕ)
-    → Walk G.street r w v → All (UsableFrom G ns F r) w
+    → Walk G.street r w v → AllByRecursion (UsableFrom G ns F r) w
     → (e : ℕ) × (l : ℕ) × (bounded_run K G ns F r v ≡ Some (e, l)) × (K.no_worse l (walk_length K G.street w) ≡ true)
 
 -- the run against the streets: every settled junction has a walk to the root, outside F, past no transit node but the root, of exactly its length
 abbrev pub ReversedSound : Type 0
 ReversedSound = (K : Kind) → LawfulKind K → (G : Graph) → Coded G → (ns : List ℕ) (F : ℕ → Bool) (r v e l : ℕ)
     → bounded_run K (reversed G) ns F r v ≡ Some (e, l)
-    → (w : List ℕ) × Walk G.street v w r × All (UsableTo G ns F r) w × (walk_length K G.street w ≡ l)
+    → (w : List ℕ) × Walk G.street v w r × AllByRecursion (UsableTo G ns F r) w × (walk_length K G.street w ≡ l)
 
 -- and every junction from which such a walk leads to the root is settled, no worse than that walk
 abbrev pub ReversedComplete : Type 0
 ReversedComplete = (K : Kind) → LawfulKind K → (G : Graph) → Coded G → (ns : List ℕ) (F : ℕ → Bool) (r v : ℕ) (w : List ℕ)
-    → Walk G.street v w r → All (UsableTo G ns F r) w
+    → Walk G.street v w r → AllByRecursion (UsableTo G ns F r) w
     → (e : ℕ) × (l : ℕ) × (bounded_run K (reversed G) ns F r v ≡ Some (e, l)) × (K.no_worse l (walk_length K G.street w) ≡ true)
 
 -- the run as defined is a run by the rule

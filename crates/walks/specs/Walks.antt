@@ -1,6 +1,6 @@
 -- Walks, their lengths, and the best open length.
 use Rattle.std.specs.Prelude.{◌≡◌, ℕ, Bool, true, false, List, [], ◌∷◌, Some, None, Option}
-use Rattle.std.specs.List.{AllByRecursion as All}
+use Rattle.std.specs.List.{AllByRecursion}
 use Rattle.maps.specs.Graph.{Street}
 use Rattle.lengths.specs.Kinds.{Kind}
 use Rattle.walks.specs.Streets.{Streets}
@@ -26,7 +26,7 @@ walk_length K g w = length_from K g K.zero w
 
 -- a walk is open if none of its streets is in the set F of closed streets
 abbrev pub Open : (ℕ → Bool) → List ℕ → Type 0
-Open F w = All (λ e. F e ≡ false) w
+Open F w = AllByRecursion (λ e. F e ≡ false) w
 
 -- an open walk leads from s to t
 abbrev pub Leads : Streets → (ℕ → Bool) → ℕ → ℕ → Type 0

@@ -1,5 +1,5 @@
 use Rattle.std.proofs.Common.{◌≡◌, ℕ, ◌+◌, ◌-◌, ◌*◌, true, false, get_or, ap, ◌∙◌, subst, arith, true-eqb, false-eqb}
-use Rattle.std.specs.List.{AllByRecursion as All}
+use Rattle.std.specs.List.{AllByRecursion}
 use Rattle.std.proofs.lemmas.List.Sums.{fold_more}
 use Rattle.std.proofs.lemmas.List.{take_all}
 use Rattle.std.proofs.ByRecursion.{All-get_or, All-more}
@@ -28,4 +28,4 @@ pub returns : goal.returns
 returns c =
     let bytes = c.args.bytes.now in
     let whole = take_all c.loop-b.b-index bytes (omega arith) in
-    ((omega (arith, false-eqb _ 0 c.if-is_empty.ensures), subst (All (λ d. is_digit d ≡ true)) whole c.loop-b.invariant.0), c.loop-b.invariant.1 ∙ ap (λ l. capped (value_of l)) whole)
+    ((omega (arith, false-eqb _ 0 c.if-is_empty.ensures), subst (AllByRecursion (λ d. is_digit d ≡ true)) whole c.loop-b.invariant.0), c.loop-b.invariant.1 ∙ ap (λ l. capped (value_of l)) whole)
