@@ -3,9 +3,10 @@
 
 usage: python3 tools/respell.py [FOLDER]      at the top of the repository, once, right after port.py
 
-What specs/, proofs/*.antt and the traits' ghost members declare turns, wherever it stands in .antt files, clauses and ghost items, must-fail edits and
+What specs/, proofs/*.antt and the traits' ghost members declare turns, and so do names that 'as' gives, wherever it stands in .antt files, clauses and ghost items, must-fail edits and
 the code spans of README.md and docs/. Names that Rattle makes for goals, steps and labels stay, and so do functions of src/, strings and outputs.
-Where a lemma would get the name of a function, it gets `_lem`.
+Where a lemma would get the name of a function, it gets `_lem`. A word of the library that port.py has brought in under the name of another
+gets its own name back.
 """
 
 import glob
@@ -24,6 +25,8 @@ APART = {
 IN_FILE = {"asks/specs/Examples.antt": {"first_round": "first_round_lem"}}
 # Types whose names had a dash.
 TYPES = {it: "".join(w[0].upper() + w[1:] for w in it.split("-")) for it in "First-removed In-order Kinds-lawful Lines-stand One-reading Refusals-mean".split()}
+# Words of the library under another word's name.
+LENT = {"AllByRecursion": "All", "ContainsAt": "Has"}
 DECLARED = re.compile(r"(?m)^ *(?:(?:pub|abbrev|unfoldable|let|mutual) +)*(?:record +|data +)?(" + TOKEN + r")(?: *[({][^\n]*?[)}])* *(?::|where)(?= |$)(.*)")
 GOAL = re.compile(r"(?m)^(?:(?:pub|abbrev) +)*(" + TOKEN + r") : goal\.")
 COMMENT = re.compile(r"(?m)(?<!\S)--.*$|(?<![:\S])//.*$")
@@ -47,7 +50,7 @@ def table_of(files):
             for name, rest in DECLARED.findall(COMMENT.sub("", text)):
                 if not rest.lstrip().startswith("goal."):
                     names.add(name)
-        names.update(re.findall(r" as (\w+)(?=[,}])", text))
+        names.update(re.findall(r" as ([\w-]+)(?=[,}])", text))
     table = {it: in_snake_case(it) for it in names if turns(it)}
     return table | {old: new for old, new in (APART | TYPES).items() if old in names}
 
@@ -71,6 +74,15 @@ def code(text, table, comment):
         out += [turned(text[at : m.start()], table), turned(m[0], table, True) if comment else m[0]]
         at = m.end()
     return "".join(out + [turned(text[at:], table)])
+
+
+def by_own_names(text):
+    for word, lent in LENT.items():
+        if f"{word} as {lent}" in text:
+            text = text.replace(f"{word} as {lent}", word)
+            plain = lambda line: line if re.match(r"\s*(--|//)", line) else re.sub(rf"(?<![\w'.-]){lent}(?![\w'-])", word, line)
+            text = "\n".join(map(plain, text.split("\n")))
+    return text
 
 
 def main(root):
@@ -97,7 +109,7 @@ def main(root):
             if ANSWERS.search(path):
                 for name in GOAL.findall(text):
                     here.pop(name, None)
-            new = code(text, here, True)
+            new = by_own_names(code(text, here, True))
         if new != text:
             changed += 1
             with open(path, "w", encoding="utf-8") as f:

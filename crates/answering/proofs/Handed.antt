@@ -39,11 +39,11 @@ pub leg_to_other : (b : Bool) (i j : ℕ) (o : Option ℕ) (D : Legs) (k l : ℕ
 leg_to_other b i j o D k l n = cond-false (b && eqb k i && eqb l j) o (D k l) (and_right (b && eqb k i) (eqb l j) (ne_eqb l j n))
 
 pub row_here : (ns : List ℕ) (p : ℕ) (T : Table) (D : Legs) (j : ℕ) → 0 < p → p ≤ length ns → 0 < j → j ≤ length ns → (p ≡ j → ⊥)
-    → with_row (length ns) ns p T D p j ≡ length_of (T (node_at ns j))
+    → with_row ns p T D p j ≡ length_of (T (node_at ns j))
 row_here ns p T D j a b c d n =
     let k = length ns in rw (position_true k p a b, position_true k j c d, ne_eqb p j n, eq-eqb p p refl)
 
-pub row_other : (ns : List ℕ) (p : ℕ) (T : Table) (D : Legs) (i j : ℕ) → (i ≡ p → ⊥) → with_row (length ns) ns p T D i j ≡ D i j
+pub row_other : (ns : List ℕ) (p : ℕ) (T : Table) (D : Legs) (i j : ℕ) → (i ≡ p → ⊥) → with_row ns p T D i j ≡ D i j
 row_other ns p T D i j n = cond-false (are_positions (length ns) i j && eqb i p) (length_of (T (node_at ns j))) (D i j) (and_right (are_positions (length ns) i j) (eqb i p) (ne_eqb i p n))
 
 -- no leg stands where none may be
@@ -67,11 +67,11 @@ module _ (p : ℕ) (ns : List ℕ) (rs : List TreeRecord) (old : Legs) where
       later = λ i j l. h.later i j (omega arith);
     }
 
-    pub blank_more : (E : Legs) → p < length ns → (count_in rs (p + 1) ≡ 0 → ⊥) → E ≡ with_row (length ns) ns (p + 1) none_settled D → RowsBlank (p + 1) ns rs old E
+    pub blank_more : (E : Legs) → p < length ns → (count_in rs (p + 1) ≡ 0 → ⊥) → E ≡ with_row ns (p + 1) none_settled D → RowsBlank (p + 1) ns rs old E
     blank_more E below some e = record {
       blank = λ i j lo hi a b n c. ⊎_elim
           (λ (q : i ≡ p + 1).
-          ap is_some (at e i j ∙ ap (λ x. with_row (length ns) ns (p + 1) none_settled D x j) q ∙ row_here ns (p + 1) none_settled D j (omega arith) (omega arith) a b (λ z. n (q ∙ z))))
+          ap is_some (at e i j ∙ ap (λ x. with_row ns (p + 1) none_settled D x j) q ∙ row_here ns (p + 1) none_settled D j (omega arith) (omega arith) a b (λ z. n (q ∙ z))))
           (λ q. ap is_some (other i j q) ∙ h.blank i j lo (omega arith) a b n c) (cases_eq i (p + 1));
       sound = λ i j lo z. other i j (λ q. some (ap (count_in rs) (sym q) ∙ z)) ∙ h.sound i j lo z;
       later = λ i j l. other i j (λ q. omega arith) ∙ h.later i j (omega arith);

@@ -37,7 +37,7 @@ module _ (ms : List Bool) (p : ℕ) (room : p < length ms) where
   mark_other i lo n = get_or-set_other ms p (i - 1) true false (λ e. n (omega arith))
 
 -- ---- one row more
-no_goal : (ns : List ℕ) → length ns ≤ 16 → (p : ℕ) (T : Table) (D : Legs) (i : ℕ) → with_row (length ns) ns p T D i 31 ≡ D i 31
+no_goal : (ns : List ℕ) → length ns ≤ 16 → (p : ℕ) (T : Table) (D : Legs) (i : ℕ) → with_row ns p T D i 31 ≡ D i 31
 no_goal ns few p T D i =
     cond-false (are_positions (length ns) i 31 && eqb i p) (length_of (T (node_at ns 31))) (D i 31)
     (and_left (are_positions (length ns) i 31) (eqb i p)
@@ -49,12 +49,12 @@ no_goal ns few p T D i =
     (λ h. h) (cases_Bool (are_positions (length ns) i 31))))
 
 module _ (ns : List ℕ) (few : length ns ≤ 16) (rs : List TreeRecord) (run : ℕ → Table) where
-  pub filled_more : (ms : List Bool) (p : ℕ) → p < length ms → p < length ns → (count_in rs (p + 1) ≡ 0 → ⊥) → (old D E : Legs) → E ≡ with_row (length ns) ns (p + 1) (run (get_or ns p 0)) D
+  pub filled_more : (ms : List Bool) (p : ℕ) → p < length ms → p < length ns → (count_in rs (p + 1) ≡ 0 → ⊥) → (old D E : Legs) → E ≡ with_row ns (p + 1) (run (get_or ns p 0)) D
       → RowsFilled ns rs run (is_marked ms) old D → RowsFilled ns rs run (is_marked (set ms p true)) old E
   filled_more ms p room below some old D E e h = record {
     filled = λ i j lo hi a b n m. ⊎_elim
         (λ (q : i ≡ p + 1). let is : i - 1 ≡ p = omega arith in
-        at e i j ∙ ap (λ x. with_row (length ns) ns (p + 1) (run (get_or ns p 0)) D x j) q
+        at e i j ∙ ap (λ x. with_row ns (p + 1) (run (get_or ns p 0)) D x j) q
         ∙ row_here ns (p + 1) (run (get_or ns p 0)) D j (omega arith) (omega arith) a b (λ z. n (q ∙ z))
         ∙ ap (λ x. length_of (run (get_or ns x 0) (node_at ns j))) (sym is))
         (λ q. other i j q ∙ h.filled i j lo hi a b n (sym (mark_other ms p room i lo q) ∙ m)) (cases_eq i (p + 1));
@@ -112,7 +112,7 @@ module _ (ns : List ℕ) (few : length ns ≤ 16) (rs : List TreeRecord) (run : 
               (λ a. let b = not-false (is_marked qs (p + 1)) a in b ∙ sym (or_left (is_marked ms (p + 1)) (is_counted r rs (p + 1)) (sym before ∙ b)))
               (and_cases (is_counted r rs (p + 1)) (not (is_marked qs (p + 1))) old-one)
 
-      pub round_more : p < length qs → p < length ns → (is_counted r rs (p + 1) && not (is_marked qs (p + 1))) ≡ true → (E : LegTable) → leg_of E ≡ with_row (length ns) ns (p + 1) (run (get_or ns p 0)) (leg_of D)
+      pub round_more : p < length qs → p < length ns → (is_counted r rs (p + 1) && not (is_marked qs (p + 1))) ≡ true → (E : LegTable) → leg_of E ≡ with_row ns (p + 1) (run (get_or ns p 0)) (leg_of D)
           → Round (p + 1) ns rs run r old E ms (set qs p true) true
       round_more room below new E e = record {
         rows = λ X x. filled_more qs p room below some X (leg_of D) (leg_of E) e (h.rows X x);

@@ -37,7 +37,7 @@ fn redo_row<M: Map, K: Zeroed>(
     requires few { length transit.now ≤ 16 }
     requires positions { positions_of legs.old ≡ length transit.now }
     ensures positions { positions_of legs.new ≡ positions_of legs.old }
-    ensures legs { leg_of legs.new ≡ with_row (length transit.now) transit.now (i + 1) (run_on K.Length.kind (M.Map.graph map.now) transit.now (closed_in closed.now) (slice_index transit.now i)) (leg_of legs.old) }
+    ensures legs { leg_of legs.new ≡ with_row transit.now (i + 1) (run_on K.Length.kind (M.Map.graph map.now) transit.now (closed_in closed.now) (slice_index transit.now i)) (leg_of legs.old) }
 {
     let tree = bounded_run::<M, K>(map, transit, closed, transit[i]);
     fill_row(legs, i as u16 + 1, &tree, transit);

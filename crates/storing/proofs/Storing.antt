@@ -73,19 +73,19 @@ module _ (rs : List TreeRecord) (ns : List ℕ) where
       (λ l. cond-true (leb i m) _ _ (le-leb i m l))
       (cases_lt m i)
 
-  pub legs_more : (m : ℕ) (i j : ℕ) → with_row (length ns) ns (m + 1) (tree_in rs (m + 1)) (tree_legs_up_to m rs ns) i j ≡ tree_legs_up_to (m + 1) rs ns i j
+  pub legs_more : (m : ℕ) (i j : ℕ) → with_row ns (m + 1) (tree_in rs (m + 1)) (tree_legs_up_to m rs ns) i j ≡ tree_legs_up_to (m + 1) rs ns i j
   legs_more m i j = ⊎_elim here other (cases_eq i (m + 1))
     where
       full : (b : Bool) (x : Option ℕ) → cond (b && true) x None ≡ cond b x None
       full true x = refl
       full false x = refl
 
-      here : i ≡ m + 1 → with_row (length ns) ns (m + 1) (tree_in rs (m + 1)) (tree_legs_up_to m rs ns) i j ≡ tree_legs_up_to (m + 1) rs ns i j
+      here : i ≡ m + 1 → with_row ns (m + 1) (tree_in rs (m + 1)) (tree_legs_up_to m rs ns) i j ≡ tree_legs_up_to (m + 1) rs ns i j
       here e =
           rw (e, eq-eqb (m + 1) (m + 1) refl, lt-leb (m + 1) m (omega arith), le-leb (m + 1) (m + 1) (omega arith))
           (full (are_positions (length ns) (m + 1) j) (length_of (tree_in rs (m + 1) (node_at ns j))))
 
-      other : (i ≡ m + 1 → ⊥) → with_row (length ns) ns (m + 1) (tree_in rs (m + 1)) (tree_legs_up_to m rs ns) i j ≡ tree_legs_up_to (m + 1) rs ns i j
+      other : (i ≡ m + 1 → ⊥) → with_row ns (m + 1) (tree_in rs (m + 1)) (tree_legs_up_to m rs ns) i j ≡ tree_legs_up_to (m + 1) rs ns i j
       other n =
           cond-false (are_positions (length ns) i j && eqb i (m + 1)) _ _ (and_right (are_positions (length ns) i j) (eqb i (m + 1)) (ne_eqb i (m + 1) n))
           ∙ ap (λ (b : Bool). cond b (tree_legs rs ns i j) None) (bound_more m i n)

@@ -5,11 +5,11 @@ use Rattle.walks.specs.Runs.{Table, length_of}
 use Rattle.walks.specs.Legs.{Legs}
 use Rattle.legs.specs.Tables.{is_position, are_positions, with_leg}
 use Rattle.asks.specs.Index.{node_at}
-use Rattle.tables.specs.Rows.{with_row}
+use Rattle.tables.specs.Rows.{with_row_to}
 
 -- the legs D, but the row of position p to positions 1 to m, of k positions
 abbrev pub with_row_up_to : ℕ → ℕ → List ℕ → ℕ → Table → Legs → Legs
-with_row_up_to m k ns p T D i j = cond (leb j m) (with_row k ns p T D i j) (D i j)
+with_row_up_to m k ns p T D i j = cond (leb j m) (with_row_to k ns p T D i j) (D i j)
 
 -- any other number is up to m + 1 if it is up to m
 pub bound_more : (m j : ℕ) → (j ≡ m + 1 → ⊥) → leb j m ≡ leb j (m + 1)
@@ -21,7 +21,7 @@ not_positions : (k i j : ℕ) → is_position k j ≡ false → are_positions k 
 not_positions k i j h = and_left (is_position k i && is_position k j) (not (eqb i j)) (and_right (is_position k i) (is_position k j) h)
 
 module _ (k : ℕ) (ns : List ℕ) (p : ℕ) (T : Table) (D : Legs) where
-  apart : (i j : ℕ) → is_position k j ≡ false → with_row k ns p T D i j ≡ D i j
+  apart : (i j : ℕ) → is_position k j ≡ false → with_row_to k ns p T D i j ≡ D i j
   apart i j h = cond-false (are_positions k i j && eqb i p) _ _ (and_left (are_positions k i j) (eqb i p) (not_positions k i j h))
 
   -- before the first position
@@ -33,7 +33,7 @@ module _ (k : ℕ) (ns : List ℕ) (p : ℕ) (T : Table) (D : Legs) where
       (cases_eq j 0)
 
   -- past the last position
-  pub row_all : (m : ℕ) → k ≤ m → (i j : ℕ) → with_row_up_to m k ns p T D i j ≡ with_row k ns p T D i j
+  pub row_all : (m : ℕ) → k ≤ m → (i j : ℕ) → with_row_up_to m k ns p T D i j ≡ with_row_to k ns p T D i j
   row_all m le i j =
       ⊎_elim
       (λ l. cond-false (leb j m) _ _ (lt-leb j m l) ∙ sym (apart i j (and_right (leb 1 j) (leb j k) (lt-leb j k (omega arith)))))
@@ -62,4 +62,4 @@ module _ (k : ℕ) (ns : List ℕ) (p : ℕ) (T : Table) (D : Legs) where
       other : (j ≡ m + 1 → ⊥) → with_leg (are_positions k p (m + 1)) p (m + 1) (length_of (T (node_at ns (m + 1)))) (with_row_up_to m k ns p T D) i j ≡ with_row_up_to (m + 1) k ns p T D i j
       other n =
           cond-false (are_positions k p (m + 1) && eqb i p && eqb j (m + 1)) _ _ (and_right (are_positions k p (m + 1) && eqb i p) (eqb j (m + 1)) (ne_eqb j (m + 1) n))
-          ∙ ap (λ (b : Bool). cond b (with_row k ns p T D i j) (D i j)) (bound_more m j n)
+          ∙ ap (λ (b : Bool). cond b (with_row_to k ns p T D i j) (D i j)) (bound_more m j n)

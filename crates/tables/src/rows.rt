@@ -3,7 +3,7 @@ ghost use Rattle.std.specs.Prelude.{◌≡◌, slice_index};
 ghost use Rattle.walks.specs.Runs.{length_of};
 ghost use Rattle.legs.specs.Tables.{positions_of, are_positions, leg_of, with_leg};
 ghost use Rattle.trees.specs.Trees.{table_of};
-ghost use Rattle.tables.specs.Rows.{with_row};
+ghost use Rattle.tables.specs.Rows.{with_row_to};
 
 use legs::LegTable;
 use trees::BoundedTree;
@@ -37,7 +37,7 @@ fn set_leg(legs: &mut LegTable, from: u16, to: u16, tree: &BoundedTree, v: u16)
 /// lacks changes nothing, and to positions past the end of the list no leg is left.
 pub fn fill_row(legs: &mut LegTable, position: u16, tree: &BoundedTree, transit: &[u16])
     ensures positions { positions_of legs.new ≡ positions_of legs.old }
-    ensures legs { leg_of legs.new ≡ with_row (positions_of legs.old) transit.now position (table_of tree.now) (leg_of legs.old) }
+    ensures legs { leg_of legs.new ≡ with_row_to (positions_of legs.old) transit.now position (table_of tree.now) (leg_of legs.old) }
 {
     for j in 0..16 {
         let v = junction_after(transit, j);

@@ -3,7 +3,7 @@ use mathlib.Core.Path.{fun_ext}
 use Rattle.trees.specs.Trees.{table_of}
 use Rattle.legs.specs.Tables.{leg_of}
 use Rattle.tables.specs.Tables.{no_record, tree_in}
-use Rattle.tables.specs.Rows.{with_row}
+use Rattle.tables.specs.Rows.{with_row, with_row_to}
 use Rattle.storing.proofs.Storing.{legs_none, legs_more, legs_all}
 use Rattle.storing.proofs.stored_legs.Goals as goal
 
@@ -20,9 +20,9 @@ loop-i-preserved c =
       c.fill_row.ensures.positions ∙ c.loop-i.invariant.0,
       λ i j.
           ap (λ L. L i j) c.fill_row.ensures.legs
-          ∙ ap (λ (k : ℕ). with_row k ns (m + 1) (table_of (get_or rs m no_record).tree) (leg_of c.loop-i.legs) i j) c.loop-i.invariant.0
-          ∙ ap (λ (x : ℕ). with_row (length ns) ns (m + 1) (table_of (get_or rs x no_record).tree) (leg_of c.loop-i.legs) i j) before
-          ∙ ap (λ (o : Option ℕ). with_row (length ns) ns (m + 1) (tree_in rs (m + 1)) (λ _ _. o) i j) (c.loop-i.invariant.1 i j)
+          ∙ ap (λ (k : ℕ). with_row_to k ns (m + 1) (table_of (get_or rs m no_record).tree) (leg_of c.loop-i.legs) i j) c.loop-i.invariant.0
+          ∙ ap (λ (x : ℕ). with_row ns (m + 1) (table_of (get_or rs x no_record).tree) (leg_of c.loop-i.legs) i j) before
+          ∙ ap (λ (o : Option ℕ). with_row ns (m + 1) (tree_in rs (m + 1)) (λ _ _. o) i j) (c.loop-i.invariant.1 i j)
           ∙ legs_more rs ns m i j,
     )
 

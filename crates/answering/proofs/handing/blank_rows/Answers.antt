@@ -5,7 +5,7 @@ use Rattle.legs.specs.Tables.{positions_of, leg_of}
 use Rattle.legs.specs.declared.table.LegTable.{LegTable}
 use Rattle.trees.specs.Runs.{none_settled}
 use Rattle.tables.specs.Tables.{no_record, count_in}
-use Rattle.tables.specs.Rows.{with_row}
+use Rattle.tables.specs.Rows.{with_row_to}
 use Rattle.answering.specs.Handing.{RowsBlank}
 use Rattle.answering.proofs.Handed.{blank_none, blank_sound, blank_more}
 use Rattle.answering.proofs.handing.blank_rows.Goals as goal
@@ -28,8 +28,8 @@ loop-i-preserved c =
           let no = not-true (eqb (get_or rs i no_record).closed 0) (sym c.is_affected.ensures ∙ w.if-is_affected.true) in (
             blank_more i ns rs old (leg_of D) c.loop-i.invariant.0 (leg_of c.if-is_affected.legs) c.loop-i-test.true
                 (λ z. eqb-false (get_or rs i no_record).closed 0 no (sym count ∙ z))
-                (ap leg_of w.legs-is ∙ w.fill_row.ensures.legs ∙ ap (λ (T : Table). with_row (positions_of D) ns (i + 1) T (leg_of D)) w.empty.ensures
-                ∙ ap (λ (k : ℕ). with_row k ns (i + 1) none_settled (leg_of D)) (c.loop-i.invariant.1 ∙ c.requires.positions)),
+                (ap leg_of w.legs-is ∙ w.fill_row.ensures.legs ∙ ap (λ (T : Table). with_row_to (positions_of D) ns (i + 1) T (leg_of D)) w.empty.ensures
+                ∙ ap (λ (k : ℕ). with_row_to k ns (i + 1) none_settled (leg_of D)) (c.loop-i.invariant.1 ∙ c.requires.positions)),
             ap positions_of w.legs-is ∙ w.fill_row.ensures.positions ∙ c.loop-i.invariant.1,
           )
       | else-is_affected w ↦
