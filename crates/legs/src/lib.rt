@@ -183,12 +183,12 @@ fn visit<K: Length>(
 )
     requires ordered { Ordered (NodeAhead K.Length.kind) queue.old }
     requires fits { 153 ≤ room queue.old }
-    requires underway { Searched K.Length.kind (leg_of legs.now) (positions_of legs.now) (length_at reached.old) (best ∷ held queue.old) }
+    requires searched { Searched K.Length.kind (leg_of legs.now) (positions_of legs.now) (length_at reached.old) (best ∷ held queue.old) }
     requires best { AllByRecursion (NodeAhead K.Length.kind best) (held queue.old) }
     ensures ordered { Ordered (NodeAhead K.Length.kind) queue.new }
     ensures room { room queue.new ≡ room queue.old }
     ensures lender { queue.new.places.ghost_name ≡ queue.old.places.ghost_name }
-    ensures underway { Searched K.Length.kind (leg_of legs.now) (positions_of legs.now) (length_at reached.new) (held queue.new) }
+    ensures searched { Searched K.Length.kind (leg_of legs.now) (positions_of legs.now) (length_at reached.new) (held queue.new) }
     ensures less { length (held queue.new) + pairs (unreached (length_at reached.new) (positions_of legs.now)) ≤ length (held queue.old) + pairs (unreached (length_at reached.old) (positions_of legs.now)) }
 {
     let node = best.position;

@@ -1,5 +1,5 @@
 -- What a kind of length means: its zero, the join of two codes, and when one code is no worse than another.
-use Rattle.std.specs.Prelude.{◌≡◌, ℕ, ◌+◌, ◌-◌, ◌^◌, ◌<◌, min, Bool, true, false, leb, nat_le}
+use Rattle.std.specs.Prelude.{◌≡◌, ℕ, ◌+◌, ◌-◌, ◌^◌, ◌<◌, min, Bool, true, false, nat_le}
 
 -- a length is stored as a code, a whole number below 2^64
 abbrev pub Code : ℕ → Type 0
@@ -26,7 +26,7 @@ pub record LawfulKind (K : Kind) : Type 0 where
 
 -- paces add up, to 2^64 - 1 at most; fewer are better
 abbrev pub paces : Kind
-paces = record { zero = 0; join = λ a b. min (a + b) (2 ^ 64 - 1); no_worse = leb }
+paces = record { zero = 0; join = λ a b. min (a + b) (2 ^ 64 - 1); no_worse = nat_le }
 
 -- a way is as wide as its narrowest gate; wider is better
 abbrev pub gates : Kind

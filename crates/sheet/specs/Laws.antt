@@ -1,5 +1,5 @@
 -- What bytes that are accepted as a sheet have: the frame, right records and right links; their map is lawful.
-use Rattle.std.specs.Prelude.{◌≡◌, ℕ, ◌+◌, ◌^◌, ◌<◌, ◌≤◌, Bool, true, false, cond, not, ◌&&◌, ◌||◌, ltb, List, length, Some, None, ◌==◌, nat_le, nat_lt, refl}
+use Rattle.std.specs.Prelude.{◌≡◌, ℕ, ◌+◌, ◌^◌, ◌<◌, ◌≤◌, Bool, true, false, cond, not, ◌&&◌, ◌||◌, List, length, Some, None, ◌==◌, nat_le, nat_lt, refl}
 use Rattle.std.proofs.Common.{sym, ap, ◌∙◌, arith}
 use Rattle.std.proofs.lemmas.Bool.{leb-true, ltb-false, eqb-false, not-true, lt-leb, and_parts, and_left, and_right, or_parts, cond-false}
 use Rattle.maps.specs.Graph.{Placed, LawfulMap}
@@ -55,7 +55,7 @@ pub ends_within : (bs : List ℕ) (e : ℕ) → (tail_at bs e == 0) ≡ false �
 unfolding wrong_record
 ends_within bs e t h =
     let n = junction_count bs in
-    let far = nat_lt n (tail_at bs e) || head_at bs e == 0 || ltb n (head_at bs e) in
+    let far = nat_lt n (tail_at bs e) || head_at bs e == 0 || nat_lt n (head_at bs e) in
     let w : far ≡ false = sym (cond-false (tail_at bs e == 0) (not (blank bs (slot_record bs e) 10)) far t) ∙ h in
     let p = or_parts (nat_lt n (tail_at bs e) || head_at bs e == 0) (nat_lt n (head_at bs e)) w in
     let q = or_parts (nat_lt n (tail_at bs e)) (head_at bs e == 0) p.0 in

@@ -52,7 +52,7 @@ visit-requires g c =
     record {
       ordered = c.take.ensures.ordered;
       fits = omega arith;
-      underway = searched_shuffled g.K.Length.kind g.met.K.Length.lawful (leg_of t) t.count (table_legs t) (length_at c.loop-best.reached) hs ts rem.shuffled i.3;
+      searched = searched_shuffled g.K.Length.kind g.met.K.Length.lawful (leg_of t) t.count (table_legs t) (length_at c.loop-best.reached) hs ts rem.shuffled i.3;
       best = (all_shuffled (NodeAhead g.K.Length.kind c.in-Some.best) hs ts rem.shuffled rem.best).1;
     }
 

@@ -8,7 +8,7 @@ use Rattle.legs.proofs.visit.Goals as goal
 pub length-requires : goal.length-requires
 length-requires g c =
     let t = c.args.legs.now in
-    searched_bound g.K.Length.kind g.met.K.Length.lawful (leg_of t) t.count (table_legs t) (length_at c.args.reached.now) c.args.best (held c.args.queue.now) c.requires.underway
+    searched_bound g.K.Length.kind g.met.K.Length.lawful (leg_of t) t.count (table_legs t) (length_at c.args.reached.now) c.args.best (held c.args.queue.now) c.requires.searched
 
 pub reach-requires : goal.reach-requires
 reach-requires g c =
@@ -17,9 +17,9 @@ reach-requires g c =
     let n = is_none_lem c.length.result (L c.args.best.position) c.length.ensures c.if-is_none.ensures in
     let f = c.requires.fits in
     record {
-      node = searched_bound g.K.Length.kind g.met.K.Length.lawful (leg_of t) t.count (table_legs t) L c.args.best (held c.args.queue.now) c.requires.underway;
+      node = searched_bound g.K.Length.kind g.met.K.Length.lawful (leg_of t) t.count (table_legs t) L c.args.best (held c.args.queue.now) c.requires.searched;
       ordered = c.requires.ordered;
-      fits = λ M is. let r = searched_room g.K.Length.kind g.met.K.Length.lawful (leg_of t) t.count (table_legs t) L c.args.best (held c.args.queue.now) c.requires.underway c.requires.best n M is in omega arith;
+      fits = λ M is. let r = searched_room g.K.Length.kind g.met.K.Length.lawful (leg_of t) t.count (table_legs t) L c.args.best (held c.args.queue.now) c.requires.searched c.requires.best n M is in omega arith;
     }
 
 pub returns-then-is_none : goal.returns-then-is_none
@@ -34,8 +34,8 @@ returns-then-is_none g c =
       ordered = told.ordered;
       room = told.room;
       lender = told.lender;
-      underway = searched_visit g.K.Length.kind g.met.K.Length.lawful (leg_of t) t.count (table_legs t) L c.args.best (held c.args.queue.now) c.requires.underway c.requires.best n M told.lengths ts told.held;
-      less = searched_less g.K.Length.kind g.met.K.Length.lawful (leg_of t) t.count (table_legs t) L c.args.best (held c.args.queue.now) c.requires.underway c.requires.best n M told.lengths ts told.held;
+      searched = searched_visit g.K.Length.kind g.met.K.Length.lawful (leg_of t) t.count (table_legs t) L c.args.best (held c.args.queue.now) c.requires.searched c.requires.best n M told.lengths ts told.held;
+      less = searched_less g.K.Length.kind g.met.K.Length.lawful (leg_of t) t.count (table_legs t) L c.args.best (held c.args.queue.now) c.requires.searched c.requires.best n M told.lengths ts told.held;
     }
 
 pub returns-else-is_none : goal.returns-else-is_none
@@ -46,6 +46,6 @@ returns-else-is_none g c =
       ordered = c.requires.ordered;
       room = refl {a = room c.args.queue.now};
       lender = refl {a = c.args.queue.now.places.ghost_name};
-      underway = searched_drop g.K.Length.kind g.met.K.Length.lawful (leg_of t) t.count (table_legs t) (length_at c.args.reached.now) c.args.best (held c.args.queue.now) c.requires.underway x.0 x.1;
+      searched = searched_drop g.K.Length.kind g.met.K.Length.lawful (leg_of t) t.count (table_legs t) (length_at c.args.reached.now) c.args.best (held c.args.queue.now) c.requires.searched x.0 x.1;
       less = omega arith;
     }
