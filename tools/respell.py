@@ -22,7 +22,7 @@ APART = {
     asked-so as-block as-sheet row-of is-none closed_after on_chain same_length""".split()
 } | {"on-map": "all_on_map"}
 # A field that falls together in one file alone.
-IN_FILE = {"asks/specs/Examples.antt": {"first_round": "first_round_lem"}}
+IN_FILE = {"asks/specs/Examples.antt": {"first_round": "first_round_blank"}}
 # Types whose names had a dash.
 TYPES = {it: "".join(w[0].upper() + w[1:] for w in it.split("-")) for it in "First-removed In-order Kinds-lawful Lines-stand One-reading Refusals-mean".split()}
 # Words of the library under another word's name.

@@ -20,7 +20,7 @@ use Rattle.asks.proofs.Redoing.{partial_handed_answer, redone_by_search}
 use Rattle.legs.specs.declared.Reached.{Reached}
 use Rattle.legs.specs.declared.table.LegTable.{LegTable}
 use Rattle.legs.specs.Tables.{leg_of, with_leg, are_positions, length_at, position_at}
-use Rattle.legs.proofs.Cells.{between_is}
+use Rattle.walks.proofs.Legs.{between_is}
 use Rattle.trees.specs.Runs.{none_settled, run_on}
 use Rattle.calls.specs.Moments.{on_map}
 use Rattle.tables.specs.declared.TreeRecord.{TreeRecord}

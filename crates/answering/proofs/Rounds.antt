@@ -5,6 +5,7 @@ use Rattle.std.proofs.lemmas.List.{get_or-set_same, get_or-set_other}
 use Rattle.std.proofs.lemmas.Bool.{cases_eq, cases_Bool, and_parts, and_cases, and_left, not-true, not-false, or_left, or_right, both_ways, cond-false, eq-eqb}
 use Rattle.walks.specs.Runs.{Table, length_of}
 use Rattle.walks.specs.Legs.{Legs}
+use Rattle.walks.proofs.Lists.{none_marked}
 use Rattle.asks.specs.Held.{bit}
 use Rattle.asks.specs.Index.{node_at}
 use Rattle.asks.specs.Handed.{is_position}
@@ -23,11 +24,6 @@ pub marked_fewer : (ms : List Bool) (p : ℕ) → p < length ms → get_or ms p 
 marked_fewer [] p lt h = absurd (omega arith)
 marked_fewer (b ∷ bs) zero lt h = let z : bit (not b) ≡ 1 = ap (λ x. bit (not x)) h in omega arith
 marked_fewer (b ∷ bs) (suc p) lt h = let z = marked_fewer bs p (omega arith) h in omega arith
-
-pub none_marked : (k i : ℕ) → get_or (replicate k false) i false ≡ false
-none_marked zero i = refl
-none_marked (suc k) zero = refl
-none_marked (suc k) (suc i) = none_marked k i
 
 module _ (ms : List Bool) (p : ℕ) (room : p < length ms) where
   mark_here : is_marked (set ms p true) (p + 1) ≡ true

@@ -1,7 +1,7 @@
 -- The legs that an ask hands to the search are those of the map without the closed streets.
-use Rattle.std.proofs.Common.{◌≡◌, ℕ, ◌-◌, ◌<◌, ◌≤◌, Bool, true, false, cond, not, ◌&&◌, ◌||◌, eqb, leb, List, length, Option, sym, refl, ap, ◌∙◌, subst, inl, inr, ⊎_elim, arith}
+use Rattle.std.proofs.Common.{◌≡◌, ℕ, ◌-◌, ◌<◌, ◌≤◌, Bool, true, false, cond, not, ◌&&◌, eqb, leb, List, length, Option, sym, refl, ap, ◌∙◌, subst, ⊎_elim, arith}
 use mathlib.Core.Path.{fun_ext}
-use Rattle.std.proofs.lemmas.Bool.{cases_Bool, cond-true, and_parts, and_from, or_cases, eqb-true, eqb-false, ne_eqb, leb-true, le-leb, not-true}
+use Rattle.std.proofs.lemmas.Bool.{cases_Bool, cond-true, and_parts, and_from, eqb-false, ne_eqb, leb-true, le-leb}
 use Rattle.std.proofs.ByRecursion.{All-get_or}
 use Rattle.std.specs.List.{AllByRecursion}
 use Rattle.maps.specs.Graph.{Graph, reversed}
@@ -13,7 +13,7 @@ use Rattle.walks.specs.Trees.{OnMap, Affected}
 use Rattle.walks.specs.Legs.{Legs, grid, Target, junction_of, leg_between, legs_of}
 use Rattle.walks.specs.Claims.{SameReach}
 use Rattle.walks.proofs.Unaffected.{unaffected_keeps}
-use Rattle.walks.proofs.Legs.{legs_answer, reached_by_legs}
+use Rattle.walks.proofs.Legs.{between_is, legs_answer, reached_by_legs}
 use Rattle.asks.specs.Held.{is_affected}
 use Rattle.asks.specs.Index.{node_at, tree_at}
 use Rattle.asks.specs.Handed.{is_position, stored_legs, position_leg, access_leg, egress_leg, handed_legs}
@@ -34,17 +34,6 @@ node_on_map G ns on i lo hi = All-get_or (OnMap G) ns (i - 1) 0 (omega arith) on
 -- a node that is neither the start nor the goal stands for its position's junction
 pub position_junction : (ns : List ℕ) (s t i : ℕ) → 0 < i → (i ≡ 31 → ⊥) → junction_of ns s t i ≡ node_at ns i
 position_junction ns s t i lo n = rw (ne_eqb i 0 (omega arith), ne_eqb i 31 n)
-
--- between which nodes there may be a leg
-pub between_is : (k i j : ℕ) → leg_between k i j ≡ true → (i ≤ k) × Target k j × (i ≡ j → ⊥)
-between_is k i j h =
-    let w = (leb 1 j && leb j k) || eqb j 31 in
-    let a = and_parts (leb i k && w) (not (eqb i j)) h in
-    let b = and_parts (leb i k) w a.0 in (
-      leb-true i k b.0,
-      ⊎_elim (λ p. inl (position_is k j p)) (λ p. inr (eqb-true j 31 p)) (or_cases (leb 1 j && leb j k) (eqb j 31) b.1),
-      eqb-false i j (not-true (eqb i j) a.1),
-    )
 
 -- ---- legs
 -- a stored leg is a length in its position's tree

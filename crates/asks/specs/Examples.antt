@@ -51,7 +51,7 @@ pub record Solved : Type 0 where
   pub direct : handed 0 31 ≡ None
   -- with nothing closed the leg from 1 to 2 is present, but not in the first round of an ask with street 2 closed
   pub sound_leg : handed_legs paces four_junctions nodes (member []) 1 4 1 2 ≡ Some 10
-  pub first_round_lem : first_round 1 2 ≡ None
+  pub first_round_blank : first_round 1 2 ≡ None
   pub first_stored : first_round 2 1 ≡ Some 9
   -- one tree is redone for an ask from 1, and none for an ask from 4 once street 5 is closed too
   pub redone_1 : passing (is_redone paces four_junctions nodes closed (λ i. best_length paces four_junctions closed 1 (node_at nodes i))) 2 ≡ 1

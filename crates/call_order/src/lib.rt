@@ -2,7 +2,7 @@
 // anew before a junction is named in it.
 //
 // The two files are those of tests/accepted. Without either step the text is refused, for the method that its plan or index lacks:
-// tests/faulty has the two texts.
+// tests/faulty has the two texts. Nothing is promised here beyond that the calls are accepted, safe and end.
 #![tactic(auto)]
 
 mod build_first;

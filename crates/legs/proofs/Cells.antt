@@ -1,25 +1,15 @@
 -- What the cells of a table hold before and after a leg is set.
-use Rattle.std.proofs.Common.{◌≡◌, ℕ, zero, suc, ◌^◌, ◌<◌, ◌≤◌, Bool, true, false, cond, not, ◌&&◌, ◌||◌, eqb, leb, List, length, get_or, set, replicate, is_some as option_is_some, Some, None, Option, sym, refl, ◌∙◌, inl, inr, ⊎_elim, arith}
+use Rattle.std.proofs.Common.{◌≡◌, ℕ, zero, suc, ◌^◌, ◌<◌, ◌≤◌, Bool, true, false, cond, eqb, List, length, get_or, set, replicate, is_some as option_is_some, Some, None, Option, sym, refl, ◌∙◌, inl, inr, ⊎_elim, arith}
 use mathlib.Core.Path.{fun_ext}
-use Rattle.std.proofs.lemmas.Bool.{cases_eq, cases_lt, both_ways, eqb-true, leb-true, and_parts, or_cases, not-true, eqb-false, eq-eqb, ne_eqb, and_left, and_right}
+use Rattle.std.proofs.lemmas.Bool.{cases_eq, cases_lt, both_ways, eq-eqb, ne_eqb, and_left, and_right}
 use Rattle.std.proofs.lemmas.List.{get_or-set_same, get_or-set_other, set_past}
 use Rattle.walks.specs.Legs.{Target, leg_between}
 use Rattle.walks.proofs.Facts.{none≢some}
+use Rattle.walks.proofs.Legs.{between_is}
 use Rattle.legs.specs.declared.table.LegTable.{LegTable}
 use Rattle.legs.specs.Tables.{cell_of, cell_length, legs_in, leg_of, no_legs, with_leg}
 
 -- ---- nodes that a leg may join
--- where a leg may be
-pub between_is : (k i j : ℕ) → leg_between k i j ≡ true → (i ≤ k) × Target k j × (i ≡ j → ⊥)
-between_is k i j h =
-    let w = (leb 1 j && leb j k) || eqb j 31 in
-    let a = and_parts (leb i k && w) (not (eqb i j)) h in
-    let b = and_parts (leb i k) w a.0 in (
-      leb-true i k b.0,
-      ⊎_elim (λ e. let p = and_parts (leb 1 j) (leb j k) e in inl (leb-true 1 j p.0, leb-true j k p.1)) (λ e. inr (eqb-true j 31 e)) (or_cases (leb 1 j && leb j k) (eqb j 31) b.1),
-      eqb-false i j (not-true (eqb i j) a.1),
-    )
-
 -- a leg is where one may be
 pub leg_between_lem : (t : LegTable) (i j w : ℕ) → leg_of t i j ≡ Some w → leg_between t.count i j ≡ true
 unfolding leg_of
@@ -119,11 +109,6 @@ pub all_zero : (n c : ℕ) → get_or (replicate n 0) c 0 < 2 ^ 64
 all_zero zero c = omega arith
 all_zero (suc n) zero = omega arith
 all_zero (suc n) (suc c) = all_zero n c
-
-pub all_false : (n c : ℕ) → get_or (replicate n false) c false ≡ false
-all_false zero c = refl
-all_false (suc n) zero = refl
-all_false (suc n) (suc c) = all_false n c
 
 -- no cell is filled: no leg
 pub no_leg : (k : ℕ) (ps : List Bool) (xs : List ℕ) → ((c : ℕ) → get_or ps c false ≡ false) → legs_in k ps xs ≡ no_legs

@@ -23,8 +23,10 @@ use Rattle.walks.proofs.Grids.{grid_is, grid_made}
 use Rattle.legs.specs.declared.table.LegTable.{LegTable}
 use Rattle.legs.specs.Tables.{leg_of}
 use Rattle.legs.specs.Searches.{Lengths, open_legs, adding_all, unreached, pairs, Offered, Searched}
-use Rattle.legs.proofs.Cells.{between_is, leg_between_lem, leg_code}
-use Rattle.legs.proofs.Spreads.{has_first, has_next, has_cases, unreached_le, unreached_set, pairs_le, pairs_next, pairs_room, open_is, all_old, all_new, all_only, all_few}
+use Rattle.walks.proofs.Lists.{has_first, has_next, has_cases}
+use Rattle.walks.proofs.Legs.{between_is}
+use Rattle.legs.proofs.Cells.{leg_between_lem, leg_code}
+use Rattle.legs.proofs.Spreads.{unreached_le, unreached_set, pairs_le, pairs_next, pairs_room, open_is, all_old, all_new, all_only, all_few}
 
 -- the legs D between k list positions: their lengths are codes, and they lead to a position or the goal
 pub record LegsOf (D : Legs) (k : ℕ) : Type 0 where

@@ -1,5 +1,5 @@
 -- Which nodes the legs of one node add to those that wait, and how many.
-use Rattle.std.proofs.Common.{◌≡◌, ℕ, zero, suc, ◌+◌, ◌<◌, ◌≤◌, eqb, ◌⊎◌, List, ◌∷◌, length, Some, None, Option, sym, refl, ap, ◌∙◌, inl, inr, ⊎_elim, add-one, arith}
+use Rattle.std.proofs.Common.{◌≡◌, ℕ, zero, suc, ◌+◌, ◌<◌, ◌≤◌, eqb, ◌⊎◌, List, length, Some, None, Option, sym, refl, ap, ◌∙◌, inl, inr, ⊎_elim, add-one, arith}
 use Rattle.std.proofs.lemmas.Bool.{cases_eq, cases_lt}
 use Rattle.std.proofs.lemmas.Map.{update_here, update_apart}
 use Rattle.std.proofs.lemmas.List.Sorted.{IsPermutation-cons, IsPermutation-trans, length_permutation}
@@ -10,19 +10,9 @@ use Rattle.lengths.specs.Kinds.{Kind}
 use Rattle.entries.specs.declared.Node.{Node}
 use Rattle.entries.specs.Records.{node}
 use Rattle.walks.specs.Legs.{Target}
+use Rattle.walks.proofs.Lists.{has_first, has_next, has_cases}
 use Rattle.walks.proofs.Facts.{none≢some}
 use Rattle.legs.specs.Searches.{Lengths, unless_reached, open_legs, adding, adding_positions, adding_all, blank, unreached, pairs}
-
--- ---- lists
-pub has_first : {E : Type 0} (x : E) (xs : List E) → ContainsAt (x ∷ xs) x
-has_first x xs = (0, omega arith, λ d. refl)
-
-pub has_next : {E : Type 0} (x y : E) (xs : List E) → ContainsAt xs y → ContainsAt (x ∷ xs) y
-has_next x y xs h = (suc h.0, omega arith, λ d. h.2 d)
-
-pub has_cases : {E : Type 0} (x y : E) (xs : List E) → ContainsAt (x ∷ xs) y → (x ≡ y) ⊎ ContainsAt xs y
-has_cases x y xs (zero, lt, is) = inl (is y)
-has_cases x y xs (suc k, lt, is) = inr (k, omega arith, is)
 
 -- ---- how many nodes are not reached, and how many pairs they have
 blank_le : (o : Option ℕ) → blank o ≤ 1

@@ -11,6 +11,7 @@ use Rattle.lengths.specs.Kinds.{Kind, LawfulKind, Code}
 use Rattle.walks.specs.Streets.{Streets, omit_if, CodedStreets}
 use Rattle.walks.specs.Runs.{Entry, Table, candidate_at, settle, first_table, table_after}
 use Rattle.walks.specs.Runs.{Candidate as Looked}
+use Rattle.walks.proofs.Lists.{has_first, has_next, has_cases}
 use Rattle.walks.proofs.Facts.{none≢some, same_some, le_more}
 use Rattle.walks.proofs.Bests.{Best, best_unique}
 use Rattle.walks.proofs.Candidates.{candidate_is, candidate_made, settled_cases, was_unsettled}
@@ -19,17 +20,6 @@ use Rattle.entries.specs.declared.Candidate.{Candidate}
 use Rattle.entries.specs.Records.{candidate, CandidateAhead}
 use Rattle.entries.specs.Ranking.{both_codes, ranked_self}
 use Rattle.trees.specs.Candidates.{if_leaves, leaving, if_unsettled, unsettled_heads, with_street, with_streets, one_if_unsettled, unsettled_tail, unsettled_tails, Underway}
-
--- ---- lists
-has_first : {E : Type 0} (x : E) (xs : List E) → ContainsAt (x ∷ xs) x
-has_first x xs = (0, omega arith, λ d. refl)
-
-has_next : {E : Type 0} (x y : E) (xs : List E) → ContainsAt xs y → ContainsAt (x ∷ xs) y
-has_next x y xs h = (suc h.0, omega arith, λ d. h.2 d)
-
-has_cases : {E : Type 0} (x y : E) (xs : List E) → ContainsAt (x ∷ xs) y → (x ≡ y) ⊎ ContainsAt xs y
-has_cases x y xs (zero, lt, is) = inl (is y)
-has_cases x y xs (suc k, lt, is) = inr (k, omega arith, is)
 
 -- ---- the streets that leave v for an unsettled head
 module _ (v : ℕ) (T : Table) (g : Streets) where

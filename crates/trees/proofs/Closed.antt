@@ -7,13 +7,9 @@ use Rattle.maps.specs.Graph.{Graph}
 use Rattle.lengths.specs.Kinds.{Kind}
 use Rattle.walks.specs.Streets.{empty_set}
 use Rattle.walks.specs.Runs.{bounded_run}
+use Rattle.walks.proofs.Lists.{none_marked}
 use Rattle.trees.specs.Marks.{closed_in}
 use Rattle.trees.specs.Runs.{run_on}
-
-pub no_mark : (k i : ℕ) → get_or (replicate k false) i false ≡ false
-no_mark zero i = refl
-no_mark (suc k) zero = refl
-no_mark (suc k) (suc i) = no_mark k i
 
 -- marks that are all false close nothing
 pub none_closed : (marks : List Bool) → ((i : ℕ) → get_or marks i false ≡ false) → closed_in marks ≡ empty_set
@@ -24,7 +20,7 @@ none_closed marks h = fun_ext go
     go (suc i) = h i
 
 pub replicate_closed : (k : ℕ) → closed_in (replicate k false) ≡ empty_set
-replicate_closed k = none_closed (replicate k false) (no_mark k)
+replicate_closed k = none_closed (replicate k false) (none_marked k)
 
 -- past its end a list of marks has none
 pub get_d_past : (marks : List Bool) (i : ℕ) → length marks ≤ i → get_or marks i false ≡ false

@@ -8,7 +8,8 @@ use Rattle.walks.specs.Streets.{member}
 use Rattle.walks.specs.Runs.{Entry, settle}
 use Rattle.trees.specs.declared.BoundedTree.{BoundedTree}
 use Rattle.trees.specs.Trees.{table_of}
-use Rattle.trees.proofs.Closed.{no_mark, get_d_past}
+use Rattle.walks.proofs.Lists.{none_marked}
+use Rattle.trees.proofs.Closed.{get_d_past}
 
 abbrev pub row_at : BoundedTree → ℕ → Option Entry
 row_at t i = cond (get_or t.settled i false) (Some (get_or t.slots i 0, get_or t.lengths i 0)) None
@@ -49,7 +50,7 @@ table_none t h = fun_ext go
   where
     go : (v : ℕ) → table_of t v ≡ None
     go zero = refl
-    go (suc i) = rw (h, no_mark 128 i)
+    go (suc i) = rw (h, none_marked 128 i)
 
 pub table_set : (t u : BoundedTree) (v e l : ℕ) → 0 < v → v ≤ 128 → length t.settled ≡ 128 → length t.slots ≡ 128 → length t.lengths ≡ 128
     → u.settled ≡ set t.settled (v - 1) true → u.slots ≡ set t.slots (v - 1) e → u.lengths ≡ set t.lengths (v - 1) l

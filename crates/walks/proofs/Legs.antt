@@ -1,6 +1,6 @@
 -- The legs by bounded runs are right, so the best way over them is the best open way.
-use Rattle.std.proofs.Common.{◌≡◌, ℕ, suc, ◌-◌, ◌<◌, ◌≤◌, Bool, true, false, cond, not, ◌&&◌, ◌||◌, eqb, leb, List, [], ◌∷◌, length, get_or, Some, None, Option, refl, ap, ◌∙◌, ⊎_elim, arith}
-use Rattle.std.proofs.lemmas.Bool.{or_cases, or_left, or_right, and_from, and_parts, both_ways, eqb-true, eq-eqb, ne_eqb, le-leb, not_from_false}
+use Rattle.std.proofs.Common.{◌≡◌, ℕ, suc, ◌-◌, ◌<◌, ◌≤◌, Bool, true, false, cond, not, ◌&&◌, ◌||◌, eqb, leb, List, [], ◌∷◌, length, get_or, Some, None, Option, refl, ap, ◌∙◌, inl, inr, ⊎_elim, arith}
+use Rattle.std.proofs.lemmas.Bool.{or_cases, or_left, or_right, and_from, and_parts, both_ways, eqb-true, eqb-false, eq-eqb, ne_eqb, leb-true, le-leb, not-true, not_from_false}
 use Rattle.std.proofs.ByRecursion.{All-weaker}
 use Rattle.maps.specs.Graph.{Graph, reversed}
 use Rattle.lengths.specs.Kinds.{Kind, LawfulKind, Code}
@@ -14,6 +14,17 @@ use Rattle.walks.proofs.Runs.{run_sound, run_complete}
 use Rattle.walks.proofs.Reversed.{reversed_sound, reversed_complete}
 use Rattle.walks.proofs.Pieces.{Piece, Right, piece_from, piece_to}
 use Rattle.walks.proofs.Splits.{leg_code, composed, split, over_legs, by_legs, same_reach}
+
+-- between which nodes there may be a leg
+pub between_is : (k i j : ℕ) → leg_between k i j ≡ true → (i ≤ k) × Target k j × (i ≡ j → ⊥)
+between_is k i j h =
+    let w = (leb 1 j && leb j k) || eqb j 31 in
+    let a = and_parts (leb i k && w) (not (eqb i j)) h in
+    let b = and_parts (leb i k) w a.0 in (
+      leb-true i k b.0,
+      ⊎_elim (λ e. let p = and_parts (leb 1 j) (leb j k) e in inl (leb-true 1 j p.0, leb-true j k p.1)) (λ e. inr (eqb-true j 31 e)) (or_cases (leb 1 j && leb j k) (eqb j 31) b.1),
+      eqb-false i j (not-true (eqb i j) a.1),
+    )
 
 pub length_some : (o : Option Entry) (l : ℕ) → length_of o ≡ Some l → (e : ℕ) × (o ≡ Some (e, l))
 length_some None l h = absurd (none≢some refl h)

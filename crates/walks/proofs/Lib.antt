@@ -1,4 +1,5 @@
 pub mod Facts
+pub mod Lists
 pub mod Walks
 pub mod Bests
 pub mod Candidates

@@ -1,4 +1,4 @@
-use Rattle.std.proofs.Common.{◌≡◌, ℕ, ◌+◌, ◌-◌, length, get_or, Option, ap, ◌∙◌, arith}
+use Rattle.std.proofs.Common.{◌≡◌, ℕ, ◌+◌, ◌-◌, get_or, Option, ap, ◌∙◌, arith}
 use mathlib.Core.Path.{fun_ext}
 use Rattle.trees.specs.Trees.{table_of}
 use Rattle.legs.specs.Tables.{leg_of}
