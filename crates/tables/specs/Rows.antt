@@ -11,4 +11,4 @@ with_row_to k ns p T D i j = cond (are_positions k i j && i == p) (length_of (T 
 
 -- the same to each other position of the list
 abbrev pub with_row : List ℕ → ℕ → Table → Legs → Legs
-with_row ns = with_row_to (length ns) ns
+with_row ns p T D i j = cond (are_positions (length ns) i j && i == p) (length_of (T (node_at ns j))) (D i j)
