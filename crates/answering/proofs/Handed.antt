@@ -1,6 +1,7 @@
 -- The legs that an ask fills in are those that it has to hand on, and what a search over them finds.
-use Rattle.std.proofs.Common.{◌≡◌, ℕ, zero, suc, ◌+◌, ◌-◌, ◌<◌, ◌≤◌, Bool, true, false, cond, not, ◌&&◌, eqb, ltb, leb, ◌⊎◌, List, length, get_or, is_some, None, Option, sym, refl, ap, ◌∙◌, subst, inl, inr, ⊎_elim, arith}
-use Rattle.std.proofs.lemmas.Bool.{cases_eq, cases_Bool, eq-eqb, ne_eqb, eqb-true, eqb-false, and_from, and_left, and_right, and_parts, le-leb, lt-ltb, leb-true, not_from_false, cond-true, cond-false}
+use Rattle.std.proofs.Common.{◌≡◌, ℕ, zero, suc, ◌<◌, ◌≤◌, Bool, true, false, cond, eqb, List, length, is_some, None, sym, refl, ap, ◌∙◌, subst, inr, ⊎_elim, arith}
+use Rattle.std.proofs.lemmas.Bool.Decides.{nat_tests}
+use Rattle.std.proofs.lemmas.Bool.{cases_eq, cases_Bool, ne_eqb, not_from_false, cond-true, cond-false}
 use Rattle.std.specs.List.{AllByRecursion}
 use Rattle.maps.specs.Graph.{Graph, reversed}
 use Rattle.lengths.specs.Kinds.{Kind, LawfulKind}
@@ -15,36 +16,24 @@ use Rattle.asks.specs.Handed.{stored_legs, position_leg, egress_leg, handed_legs
 use Rattle.asks.specs.Reached.{passing, is_redone}
 use Rattle.asks.specs.Claims.{AgreesWhereReached}
 use Rattle.asks.specs.Redone.{Redone}
-use Rattle.asks.proofs.Handing.{node_on_map, position_true}
+use Rattle.asks.proofs.Handing.{node_on_map}
 use Rattle.asks.proofs.Redoing.{partial_handed_answer, redone_by_search}
 use Rattle.legs.specs.declared.Reached.{Reached}
 use Rattle.legs.specs.declared.table.LegTable.{LegTable}
-use Rattle.legs.specs.Tables.{leg_of, with_leg, are_positions, length_at, position_at}
+use Rattle.legs.specs.Tables.{leg_of, length_at}
 use Rattle.walks.proofs.Legs.{between_is}
-use Rattle.trees.specs.Runs.{none_settled, run_on}
+use Rattle.trees.specs.Runs.{run_on}
 use Rattle.calls.specs.Moments.{on_map}
 use Rattle.tables.specs.declared.TreeRecord.{TreeRecord}
 use Rattle.tables.specs.Tables.{count_in}
-use Rattle.tables.specs.Rows.{with_row}
-use Rattle.answering.specs.Handing.{RowsBlank, StopsHanded, EndsHanded, RowsFilled, is_counted}
+use Rattle.tables.specs.Rows.{with_row, with_row_to}
+use Rattle.answering.specs.Handing.{RowsBlank, EndsHanded, RowsFilled, is_counted}
 
--- ---- one leg, one row
-pub leg_here : (b : Bool) (i j : ℕ) (o : Option ℕ) (D : Legs) → b ≡ true → with_leg b i j o D i j ≡ o
-leg_here b i j o D h = cond-true (b && eqb i i && eqb j j) o (D i j) (and_from (b && eqb i i) (eqb j j) (and_from b (eqb i i) h (eq-eqb i i refl)) (eq-eqb j j refl))
-
-pub leg_from_other : (b : Bool) (i j : ℕ) (o : Option ℕ) (D : Legs) (k l : ℕ) → (k ≡ i → ⊥) → with_leg b i j o D k l ≡ D k l
-leg_from_other b i j o D k l n = cond-false (b && eqb k i && eqb l j) o (D k l) (and_left (b && eqb k i) (eqb l j) (and_right b (eqb k i) (ne_eqb k i n)))
-
-pub leg_to_other : (b : Bool) (i j : ℕ) (o : Option ℕ) (D : Legs) (k l : ℕ) → (l ≡ j → ⊥) → with_leg b i j o D k l ≡ D k l
-leg_to_other b i j o D k l n = cond-false (b && eqb k i && eqb l j) o (D k l) (and_right (b && eqb k i) (eqb l j) (ne_eqb l j n))
-
-pub row_here : (ns : List ℕ) (p : ℕ) (T : Table) (D : Legs) (j : ℕ) → 0 < p → p ≤ length ns → 0 < j → j ≤ length ns → (p ≡ j → ⊥)
-    → with_row ns p T D p j ≡ length_of (T (node_at ns j))
-row_here ns p T D j a b c d n =
-    let k = length ns in rw (position_true k p a b, position_true k j c d, ne_eqb p j n, eq-eqb p p refl)
-
-pub row_other : (ns : List ℕ) (p : ℕ) (T : Table) (D : Legs) (i j : ℕ) → (i ≡ p → ⊥) → with_row ns p T D i j ≡ D i j
-row_other ns p T D i j n = cond-false (are_positions (length ns) i j && eqb i p) (length_of (T (node_at ns j))) (D i j) (and_right (are_positions (length ns) i j) (eqb i p) (ne_eqb i p n))
+-- ---- one row
+-- a row filled from a tree, for all positions of the list
+pub row_filled : (ns xs : List ℕ) (k p : ℕ) (T A : Table) (D E : Legs) → E ≡ with_row_to k xs p T D → k ≡ length ns → xs ≡ ns → T ≡ A → E ≡ with_row ns p A D
+row_filled ns xs k p T A D E e a b c =
+    e ∙ ap (λ n. with_row_to n xs p T D) a ∙ ap (λ l. with_row_to (length ns) l p T D) b ∙ ap (λ (X : Table). with_row ns p X D) c
 
 -- no leg stands where none may be
 pub leg_outside : (t : LegTable) (i j : ℕ) → leg_between t.count i j ≡ false → leg_of t i j ≡ None
@@ -54,74 +43,12 @@ leg_outside t i j h = cond-false (leg_between t.count i j) _ None h
 pub at : {D E : Legs} → D ≡ E → (i j : ℕ) → D i j ≡ E i j
 at e i j = ap (λ (X : Legs). X i j) e
 
--- ---- rows of affected trees left out, position by position
-module _ (p : ℕ) (ns : List ℕ) (rs : List TreeRecord) (old : Legs) where
-  pub blank_none : RowsBlank 0 ns rs old old
-  blank_none = record { blank = λ i j lo hi. absurd (omega arith); sound = λ i j lo z. refl; later = λ i j h. refl }
-
-  module _ (D : Legs) (h : RowsBlank p ns rs old D) where
-    pub blank_sound : count_in rs (p + 1) ≡ 0 → RowsBlank (p + 1) ns rs old D
-    blank_sound z = record {
-      blank = λ i j lo hi a b n c. h.blank i j lo (⊎_elim (λ (q : i ≡ p + 1). absurd (c (ap (count_in rs) q ∙ z))) (λ q. omega arith) (cases_eq i (p + 1))) a b n c;
-      sound = h.sound;
-      later = λ i j l. h.later i j (omega arith);
-    }
-
-    pub blank_more : (E : Legs) → p < length ns → (count_in rs (p + 1) ≡ 0 → ⊥) → E ≡ with_row ns (p + 1) none_settled D → RowsBlank (p + 1) ns rs old E
-    blank_more E below some e = record {
-      blank = λ i j lo hi a b n c. ⊎_elim
-          (λ (q : i ≡ p + 1).
-          ap is_some (at e i j ∙ ap (λ x. with_row ns (p + 1) none_settled D x j) q ∙ row_here ns (p + 1) none_settled D j (omega arith) (omega arith) a b (λ z. n (q ∙ z))))
-          (λ q. ap is_some (other i j q) ∙ h.blank i j lo (omega arith) a b n c) (cases_eq i (p + 1));
-      sound = λ i j lo z. other i j (λ q. some (ap (count_in rs) (sym q) ∙ z)) ∙ h.sound i j lo z;
-      later = λ i j l. other i j (λ q. omega arith) ∙ h.later i j (omega arith);
-    }
-      where
-        other : (i j : ℕ) → (i ≡ p + 1 → ⊥) → E i j ≡ D i j
-        other i j q = at e i j ∙ row_other ns (p + 1) none_settled D i j q
-
--- ---- access and egress, position by position
-module _ (p : ℕ) (ns : List ℕ) (A B : Table) (old : Legs) where
-  pub stops_none : StopsHanded 0 ns A B old old
-  stops_none = record { access = λ j lo hi. absurd (omega arith); egress = λ i lo hi. absurd (omega arith); between = λ i j a b. refl }
-
-  pub stops_more : p < 30 → (D E X : Legs) (x y : Option ℕ) (a b : Bool) → a ≡ true → b ≡ true
-      → E ≡ with_leg a 0 (p + 1) x D → X ≡ with_leg b (p + 1) 31 y E → x ≡ length_of (A (get_or ns p 0)) → y ≡ length_of (B (get_or ns p 0))
-      → StopsHanded p ns A B old D → StopsHanded (p + 1) ns A B old X
-  stops_more small D E X x y a b ta tb e f ex ey h = record {
-    access = λ j lo hi. second 0 j (inl (omega arith)) ∙ ⊎_elim
-        (λ (q : j ≡ p + 1). let is : j - 1 ≡ p = omega arith in
-        at e 0 j ∙ ap (λ v. with_leg a 0 (p + 1) x D 0 v) q ∙ leg_here a 0 (p + 1) x D ta ∙ ex ∙ ap (λ v. length_of (A (get_or ns v 0))) (sym is))
-        (λ q. at e 0 j ∙ leg_to_other a 0 (p + 1) x D 0 j q ∙ h.access j lo (omega arith)) (cases_eq j (p + 1));
-    egress = λ i lo hi. ⊎_elim
-        (λ (q : i ≡ p + 1). let is : i - 1 ≡ p = omega arith in
-        at f i 31 ∙ ap (λ v. with_leg b (p + 1) 31 y E v 31) q ∙ leg_here b (p + 1) 31 y E tb ∙ ey ∙ ap (λ v. length_of (B (get_or ns v 0))) (sym is))
-        (λ q. at f i 31 ∙ leg_from_other b (p + 1) 31 y E i 31 q ∙ at e i 31 ∙ leg_from_other a 0 (p + 1) x D i 31 (λ z. omega arith) ∙ h.egress i lo (omega arith)) (cases_eq i (p + 1));
-    between = λ i j lo hi. at f i j ∙ leg_to_other b (p + 1) 31 y E i j (λ z. omega arith) ∙ at e i j ∙ leg_from_other a 0 (p + 1) x D i j (λ z. omega arith) ∙ h.between i j lo hi;
-  }
-    where
-      second : (i j : ℕ) → (i < p + 1) ⊎ (j < 31) → X i j ≡ E i j
-      second i j (inl l) = at f i j ∙ leg_from_other b (p + 1) 31 y E i j (λ z. omega arith)
-      second i j (inr l) = at f i j ∙ leg_to_other b (p + 1) 31 y E i j (λ z. omega arith)
-
--- the direct length last
-pub ends_all : (ns : List ℕ) → length ns ≤ 16 → (A B : Table) (t : ℕ) (old D E : Legs) → StopsHanded (length ns) ns A B old D
-    → E ≡ with_leg true 0 31 (length_of (A t)) D → EndsHanded ns A B t old E
-ends_all ns few A B t old D E h e = record {
-  stops = record {
-    access = λ j lo hi. at e 0 j ∙ leg_to_other true 0 31 (length_of (A t)) D 0 j (λ z. omega arith) ∙ h.access j lo hi;
-    egress = λ i lo hi. at e i 31 ∙ leg_from_other true 0 31 (length_of (A t)) D i 31 (λ z. omega arith) ∙ h.egress i lo hi;
-    between = λ i j lo hi. at e i j ∙ leg_from_other true 0 31 (length_of (A t)) D i j (λ z. omega arith) ∙ h.between i j lo hi;
-  };
-  direct = at e 0 31 ∙ leg_here true 0 31 (length_of (A t)) D refl;
-}
-
 -- ---- junctions on the map
 pub on_map_is : (G : Graph) (v : ℕ) → on_map G v ≡ true → OnMap G v
-on_map_is G v h = let p = and_parts (leb 1 v) (leb v G.junctions) h in (let q = leb-true 1 v p.0 in omega arith, leb-true v G.junctions p.1)
+on_map_is G v h = (grind (arith, nat_tests), grind (arith, nat_tests))
 
 pub run_on_map : (K : Kind) (G : Graph) (ns : List ℕ) (F : ℕ → Bool) (v : ℕ) → OnMap G v → run_on K G ns F v ≡ bounded_run K G ns F v
-run_on_map K G ns F v h = cond-true (ltb 0 v && leb v G.junctions) _ _ (and_from (ltb 0 v) (leb v G.junctions) (lt-ltb 0 v h.0) (le-leb v G.junctions h.1))
+run_on_map K G ns F v h = grind (arith, nat_tests)
 
 -- ---- counts by tests that agree
 pub passing_same : (q r : ℕ → Bool) (k : ℕ) → ((i : ℕ) → 0 < i → i ≤ k → q i ≡ r i) → passing q k ≡ passing r k
@@ -141,41 +68,40 @@ module _ (K : Kind) (G : Graph) (ns : List ℕ) (on : AllByRecursion (OnMap G) n
     -- the row of a node that is reached is as it has to be
     module _ (i : ℕ) (here : is_some (length_at r i) ≡ true) where
       counted : 0 < i → i ≤ length ns → (count_in rs i ≡ 0 → ⊥) → is_counted r rs i ≡ true
-      counted lo hi n =
-          and_from (is_some (position_at r i)) (not (eqb (count_in rs i) 0))
-          (ap is_some (cond-true (leb 1 i && leb i 16) (length_at r i) None (position_true 16 i lo (omega arith))) ∙ here)
-          (not_from_false (eqb (count_in rs i) 0) (ne_eqb (count_in rs i) 0 n))
+      counted lo hi n = grind (arith, nat_tests)
 
       between : (j : ℕ) → 0 < i → i ≤ length ns → 0 < j → j ≤ length ns → (i ≡ j → ⊥) → leg_of legs i j ≡ position_leg K G ns F i j
-      between j a b c d n = go (eqb (closed_held F (tree_at K G ns i) G.junctions) 0) refl
+      between j a b c d n = ⊎_elim unaffected affected (cases_eq (count_in rs i) 0)
         where
-          go : (x : Bool) → eqb (closed_held F (tree_at K G ns i) G.junctions) 0 ≡ x
-              → leg_of legs i j ≡ cond (not x) (length_of (bounded_run K G ns F (node_at ns i) (node_at ns j))) (stored_legs K G ns i j)
-          go true h =
-              let z = counts i a b ∙ eqb-true _ 0 h in
-              rows.sound i j a z ∙ ends.stops.between i j a (omega arith) ∙ blank.sound i j a z ∙ stored i j
-          go false h =
-              rows.filled i j a b c d n (counted a b (λ z. eqb-false _ 0 h (sym (counts i a b) ∙ z)))
+          unaffected : count_in rs i ≡ 0 → leg_of legs i j ≡ position_leg K G ns F i j
+          unaffected z =
+              let zero = counts i a b in
+              let kept = rows.sound i j a z ∙ ends.stops.between i j a (omega arith) ∙ blank.sound i j a z ∙ stored i j in grind (arith, nat_tests)
+
+          affected : (count_in rs i ≡ 0 → ⊥) → leg_of legs i j ≡ position_leg K G ns F i j
+          affected z =
+              rows.filled i j a b c d n (counted a b z)
               ∙ ap (λ (T : Table). length_of (T (node_at ns j))) (run_on_map K G ns F (node_at ns i) (node_on_map G ns on i a b))
+              ∙ sym (cond-true _ _ _ (not_from_false _ (ne_eqb (closed_held F (tree_at K G ns i) G.junctions) 0 (λ q. z (counts i a b ∙ q)))))
 
-      inner : (j : ℕ) → i ≤ length ns → Target (length ns) j → (i ≡ j → ⊥) → (x y : Bool) → eqb i 0 ≡ x → eqb j 31 ≡ y
-          → leg_of legs i j ≡ cond x (length_of (bounded_run K G ns F s (cond y t (node_at ns j)))) (cond y (egress_leg K G ns F t i) (position_leg K G ns F i j))
-      inner j hi target n true true p q =
-          ap (λ v. leg_of legs v j) (eqb-true i 0 p) ∙ ap (λ v. leg_of legs 0 v) (eqb-true j 31 q) ∙ rows.start 31 ∙ ends.direct
-      inner j hi target n true false p q =
-          let c : (0 < j) × (j ≤ length ns) = ⊎_elim (λ y. y) (λ (y : j ≡ 31). absurd (eqb-false j 31 q y)) target in
-          ap (λ v. leg_of legs v j) (eqb-true i 0 p) ∙ rows.start j ∙ ends.stops.access j c.0 c.1
-      inner j hi target n false true p q =
-          let x = eqb-false i 0 p in ap (λ v. leg_of legs i v) (eqb-true j 31 q) ∙ rows.goal i ∙ ends.stops.egress i (omega arith) hi
-      inner j hi target n false false p q =
-          let c : (0 < j) × (j ≤ length ns) = ⊎_elim (λ y. y) (λ (y : j ≡ 31). absurd (eqb-false j 31 q y)) target in
-          let x = eqb-false i 0 p in between j (omega arith) hi c.0 c.1 n
+      inner : (j : ℕ) → i ≤ length ns → Target (length ns) j → (i ≡ j → ⊥)
+          → leg_of legs i j ≡ cond (eqb i 0) (length_of (bounded_run K G ns F s (cond (eqb j 31) t (node_at ns j)))) (cond (eqb j 31) (egress_leg K G ns F t i) (position_leg K G ns F i j))
+      inner j hi target n =
+          ⊎_elim
+          (λ (p : i ≡ 0). ⊎_elim
+          (λ (q : j ≡ 31). rw (p, q) (rows.start 31 ∙ ends.direct))
+          (λ q. let c = position q in rw (p, ne_eqb j 31 q) (rows.start j ∙ ends.stops.access j c.0 c.1)) (cases_eq j 31))
+          (λ p. ⊎_elim
+          (λ (q : j ≡ 31). rw (q, ne_eqb i 0 p) (rows.goal i ∙ ends.stops.egress i (omega arith) hi))
+          (λ q. let c = position q in rw (ne_eqb i 0 p, ne_eqb j 31 q) (between j (omega arith) hi c.0 c.1 n)) (cases_eq j 31)) (cases_eq i 0)
+        where
+          position : (j ≡ 31 → ⊥) → (0 < j) × (j ≤ length ns)
+          position q = ⊎_elim (λ y. y) (λ (y : j ≡ 31). absurd (q y)) target
 
-      pub handed_row : (j : ℕ) → leg_of legs i j ≡ handed_legs K G ns F s t i j
+      handed_row : (j : ℕ) → leg_of legs i j ≡ handed_legs K G ns F s t i j
       handed_row j =
           ⊎_elim
-          (λ (h : leg_between (length ns) i j ≡ true). let b = between_is (length ns) i j h in
-          inner j b.0 b.1 b.2 (eqb i 0) (eqb j 31) refl refl ∙ sym (cond-true (leg_between (length ns) i j) _ None h))
+          (λ (h : leg_between (length ns) i j ≡ true). let b = between_is (length ns) i j h in inner j b.0 b.1 b.2 ∙ sym (cond-true (leg_between (length ns) i j) _ None h))
           (λ (h : leg_between (length ns) i j ≡ false).
           leg_outside legs i j (ap (λ k. leg_between k i j) places ∙ h) ∙ sym (cond-false (leg_between (length ns) i j) _ None h))
           (cases_Bool (leg_between (length ns) i j))
@@ -190,9 +116,7 @@ module _ (K : Kind) (G : Graph) (ns : List ℕ) (on : AllByRecursion (OnMap G) n
     found_best = partial_handed_answer K law G coded ns on few F s t D same 31 (inr refl) (length_at r 31) (best 31)
 
     counted_as : (i : ℕ) → 0 < i → i ≤ length ns → is_redone K G ns F (length_at r) i ≡ is_counted r rs i
-    counted_as i lo hi =
-        ap (λ o. is_some o && not (eqb (closed_held F (tree_at K G ns i) G.junctions) 0)) (sym (cond-true (leb 1 i && leb i 16) (length_at r i) None (position_true 16 i lo (omega arith))))
-        ∙ ap (λ k. is_some (position_at r i) && not (eqb k 0)) (sym (counts i lo hi))
+    counted_as i lo hi = let same = counts i lo hi in grind (arith, nat_tests)
 
     pub found_redone : Redone K G ns F s (passing (is_counted r rs) (length ns))
     found_redone =

@@ -1,5 +1,7 @@
 -- The legs of an ask as they are handed on: rows of affected trees, the ends, and the rows filled in round by round.
 use Rattle.std.specs.Prelude.{◌≡◌, ℕ, ◌+◌, ◌-◌, ◌<◌, ◌≤◌, Bool, true, false, not, ◌&&◌, ◌||◌, List, [], ◌∷◌, length, is_some, ◌==◌, ◌≢◌, slice_index_or}
+use Rattle.maps.specs.Graph.{Graph}
+use Rattle.lengths.specs.Kinds.{Kind}
 use Rattle.walks.specs.Runs.{Table, length_of}
 use Rattle.walks.specs.Legs.{Legs}
 use Rattle.asks.specs.Held.{bit}
@@ -7,8 +9,14 @@ use Rattle.asks.specs.Index.{node_at}
 use Rattle.legs.specs.declared.Reached.{Reached}
 use Rattle.legs.specs.declared.table.LegTable.{LegTable}
 use Rattle.legs.specs.Tables.{leg_of, position_at}
+use Rattle.trees.specs.Runs.{run_on}
+use Rattle.tables.specs.declared.Tables.{Tables}
 use Rattle.tables.specs.declared.TreeRecord.{TreeRecord}
-use Rattle.tables.specs.Tables.{count_in}
+use Rattle.tables.specs.Tables.{transit_of, closed_of, count_in}
+
+-- the run over the open streets, from each junction, past no other transit node
+abbrev pub run_anew : Kind → Graph → Tables → ℕ → Table
+run_anew K G x = run_on K G (transit_of x) (closed_of x)
 
 -- of the first p positions those whose tree holds a closed street have no leg to another position; all others have their legs as before
 pub record RowsBlank (p : ℕ) (ns : List ℕ) (rs : List TreeRecord) (old new : Legs) : Type 0 where

@@ -1,8 +1,12 @@
 -- Streets of a block by their slots: a street leaves the cell of its slot.
-use Rattle.std.proofs.Common.{◌≡◌, ℕ, ◌+◌, ◌*◌, ◌<◌, ◌≤◌, Bool, true, false, cond, List, Some, None, refl, ap, ◌∙◌, arith}
-use Rattle.maps.specs.Graph.{Street, Leaves, tail_of, head_of, Enters}
-use Rattle.block.specs.Layout.{cell_count, cell_of, side_of, street_from, filled, block_graph}
-use Rattle.block.specs.Laws.{filled_parts}
+use Rattle.std.proofs.Common.{◌≡◌, ℕ, ◌+◌, ◌-◌, ◌*◌, ◌<◌, ◌≤◌, Bool, true, false, cond, ◌&&◌, eqb, ltb, List, Some, None, Option, refl, ap, ◌∙◌, arith}
+use Rattle.std.proofs.lemmas.Bool.{ltb-true, lt-ltb, eqb-true, eq-eqb, and_parts, and_from}
+use Rattle.maps.specs.Graph.{Street, Lowest, Placed, Leaves, tail_of, head_of, Enters}
+use Rattle.formats.specs.Scan.{optional, lowest_in}
+use Rattle.formats.proofs.Scans.{PassesTo, lowest_in_lowest}
+use Rattle.block.specs.Layout.{cell_count, cell_of, side_of, street_from, street_at, filled, block_graph}
+use Rattle.block.specs.Refusal.{Sound}
+use Rattle.block.specs.Laws.{filled_parts, block_lawful}
 
 tail_if : (b : Bool) (x : Street) (v : ℕ) → 0 < v → tail_of (cond b (Some x) None) ≡ v → (b ≡ true) × (x.0 ≡ v)
 tail_if true x v p h = (refl, h)
@@ -27,3 +31,46 @@ head_if false x v p h = absurd (omega arith)
 -- a street that enters some junction has one of the block's slots
 pub enters_slot : (bs : List ℕ) (v k : ℕ) → Enters (block_graph bs) v k → k ≤ 4 * cell_count bs
 enters_slot bs v k l = (filled_parts bs k (head_if (filled bs k) (street_from bs (cell_of k) (side_of k)) v l.0 l.1)).1
+
+-- two facts that hold of the same numbers above two bounds
+lowest_above : (P Q : ℕ → Type 0) (a b : ℕ) (r : Option ℕ) → ((k : ℕ) → a < k → P k → (b < k) × Q k) → ((k : ℕ) → b < k → Q k → (a < k) × P k) → Lowest P a r → Lowest Q b r
+lowest_above P Q a b None there back h = record { above = tt; here = tt; gap = λ k lo _ q. let p = back k lo q in h.gap k p.0 tt p.1 }
+lowest_above P Q a b (Some e) there back h =
+    let t = there e h.above h.here in
+    record { above = t.0; here = t.1; gap = λ k lo lt q. let p = back k lo q in h.gap k p.0 lt p.1 }
+
+-- the head of a slot is junction v
+abbrev pub heads : ℕ → Option Street → Bool
+heads v None = false
+heads v (Some s) = eqb s.1 v
+
+heads_true : (n v : ℕ) (o : Option Street) → Placed n o → heads v o ≡ true → (0 < v) × (head_of o ≡ v)
+heads_true n v None p h = cc
+heads_true n v (Some s) p h = let is = eqb-true s.1 v h in (omega (arith, p.2), is)
+
+heads_from : (v : ℕ) (o : Option Street) → (0 < v) × (head_of o ≡ v) → heads v o ≡ true
+heads_from v None h = absurd (omega (arith, h.0, h.1))
+heads_from v (Some s) h = eq-eqb s.1 v h.1
+
+module _ (bs : List ℕ) (v after : ℕ) where
+  -- the first of the four slots of cell v that holds a street is the lowest that leaves v
+  abbrev pub leaving : ℕ → Bool
+  leaving k = ltb after k && filled bs k
+
+  pub lowest_leaving_is : 0 < v → Lowest (Leaves (block_graph bs) v) after (optional (lowest_in leaving (4 * v - 4) (4 * v)))
+  lowest_leaving_is some =
+      lowest_above (PassesTo leaving (4 * v)) (Leaves (block_graph bs) v) (4 * v - 4) after _
+      (λ k lo p. let t = and_parts (ltb after k) (filled bs k) p.1 in (ltb-true after k t.0, slot_leaves bs v k t.1 (omega (arith, p.0))))
+      (λ k lo l. let s = leaves_slot bs v k l in (omega (arith, s.2), (omega (arith, s.1), and_from _ _ (lt-ltb after k lo) s.0)))
+      (lowest_in_lowest leaving (4 * v - 4) (4 * v) (omega arith))
+
+  -- the first slot above a number that holds a street to v is the lowest there that enters v
+  abbrev pub entering : ℕ → Bool
+  entering k = ltb after k && heads v (street_at bs k)
+
+  pub lowest_entering_is : Sound bs → Lowest (Enters (block_graph bs) v) after (optional (lowest_in entering 0 (4 * cell_count bs)))
+  lowest_entering_is sound =
+      lowest_above (PassesTo entering (4 * cell_count bs)) (Enters (block_graph bs) v) 0 after _
+      (λ k lo p. let t = and_parts (ltb after k) (heads v (street_at bs k)) p.1 in (ltb-true after k t.0, heads_true (cell_count bs) v (street_at bs k) ((block_lawful bs sound).placed k) t.1))
+      (λ k lo l. (omega (arith, l.0), (enters_slot bs v k l, and_from _ _ (lt-ltb after k lo) (heads_from v (street_at bs k) l))))
+      (lowest_in_lowest entering 0 (4 * cell_count bs) (omega arith))

@@ -10,14 +10,15 @@ use Rattle.formats.proofs.Verdicts.{past, equal, placed_if}
 use Rattle.block.specs.declared.cells.Side.{Side}
 use Rattle.block.specs.declared.cells.Side.TheVariants.{North, East, South, West}
 use Rattle.block.specs.Layout.{width, height, cell_count, cell_at, row_of, column_of, cell_of, side_of, opened, inside, neighbour, street_from, filled, street_at, block_graph}
-use Rattle.block.specs.Refusal.{out_of_range, leads_out, bad_side, refusal, Framed, Sound}
+use Rattle.block.specs.Refusal.{out_of_range, leads_out, bad_side, refusal, Sound}
+use Rattle.block.specs.Meaning.{InRange, Frame}
 
 -- what a refusal of 0 says
 pub record Passed (bs : List ℕ) : Type 0 where
-  pub frame : Framed bs
+  pub frame : Frame bs
   pub sides : bad_side bs ≡ 0
 
-pub in_range : (bs : List ℕ) → out_of_range bs ≡ false → (0 < width bs) × (0 < height bs) × (cell_count bs ≤ 128)
+pub in_range : (bs : List ℕ) → out_of_range bs ≡ false → InRange bs
 in_range bs h =
     let r = or_parts (width bs == 0 || height bs == 0) (nat_lt 128 (cell_count bs)) h in
     let s = or_parts (width bs == 0) (height bs == 0) r.0 in
@@ -32,8 +33,10 @@ passed bs h =
     let c = past (out_of_range bs) 3 _ (omega arith) b.1 in
     let d = past (not (length bs == 3 + cell_count bs)) 4 _ (omega arith) c.1 in
     let e = past (not (bad_side bs == 0)) 8 0 (omega arith) d.1 in
-    let r = in_range bs c.0 in
-    record { frame = (ltb-false (length bs) 3 a.0, r.0, r.1, r.2, equal (length bs) (3 + cell_count bs) d.0); sides = equal (bad_side bs) 0 e.0 }
+    record {
+      frame = record { long = ltb-false (length bs) 3 a.0; kind = equal (byte_at bs 0) 0x47 b.0; range = in_range bs c.0; size = equal (length bs) (3 + cell_count bs) d.0 };
+      sides = equal (bad_side bs) 0 e.0;
+    }
 
 -- a filled slot is one of the block's, and its side is open
 pub filled_parts : (bs : List ℕ) (e : ℕ) → filled bs e ≡ true → (0 < e) × (e ≤ 4 * cell_count bs) × (opened bs (cell_of e) (side_of e) ≡ true)
@@ -88,7 +91,7 @@ street_placed bs s e h =
     let p = filled_parts bs e h in
     let lo : 0 < cell_of e = omega arith in
     let hi : cell_of e ≤ cell_count bs = omega (arith, p.0, p.1) in
-    let n = neighbour_within bs f.frame.1 (cell_of e) lo hi (side_of e) (leads_in bs f.sides e h) in
+    let n = neighbour_within bs f.frame.range.0 (cell_of e) lo hi (side_of e) (leads_in bs f.sides e h) in
     let byte = s.1 (neighbour bs (cell_of e) (side_of e) + 2) in
     (lo, hi, n.0, n.1, omega (arith, div-le_self (cell_at bs (neighbour bs (cell_of e) (side_of e))) 16))
 
@@ -102,8 +105,8 @@ pub block_lawful : (bs : List ℕ) → Sound bs → LawfulMap (block_graph bs)
 block_lawful bs s =
     let f = (passed bs s.0).frame in
     record {
-      some_junction = mul-pos f.1 f.2;
-      few_junctions = f.3;
+      some_junction = mul-pos f.range.0 f.range.1;
+      few_junctions = f.range.2;
       few_slots = omega arith;
       no_zero = refl;
       no_more = street_none bs;

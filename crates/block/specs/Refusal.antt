@@ -1,5 +1,5 @@
 -- The number with which bytes are refused as a block, 0 for none, as a function that computes. specs/Meaning says what each number means.
-use Rattle.std.specs.Prelude.{◌≡◌, ℕ, ◌+◌, ◌*◌, ◌<◌, ◌≤◌, Bool, cond, not, ◌&&◌, ◌||◌, List, length, ◌==◌, nat_lt}
+use Rattle.std.specs.Prelude.{◌≡◌, ℕ, ◌+◌, ◌*◌, Bool, cond, not, ◌&&◌, ◌||◌, List, length, ◌==◌, nat_lt}
 use Rattle.formats.specs.Bytes.{byte_at, Bytes}
 use Rattle.formats.specs.Scan.{lowest_in}
 use Rattle.block.specs.Layout.{width, height, cell_count, cell_of, side_of, opened, inside}
@@ -23,10 +23,6 @@ refusal bs =
     (cond (out_of_range bs) 3
     (cond (not (length bs == 3 + cell_count bs)) 4
     (cond (not (bad_side bs == 0)) 8 0))))
-
--- bytes that pass the checks before the cells
-abbrev pub Framed : List ℕ → Type 0
-Framed bs = (3 ≤ length bs) × (0 < width bs) × (0 < height bs) × (cell_count bs ≤ 128) × (length bs ≡ 3 + cell_count bs)
 
 -- bytes that are accepted as a block
 abbrev pub Sound : List ℕ → Type 0

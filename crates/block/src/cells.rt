@@ -1,131 +1,146 @@
 // The cells of a block and their sides, read from its bytes.
-ghost use Rattle.std.specs.Prelude.{◌≡◌, ◌*◌, ◌<◌, ◌≤◌, true};
-ghost use Rattle.block.specs.Layout.{cell_count, bit_of, ordered, opened, inside, neighbour, street_at, filled};
-ghost use Rattle.block.specs.Refusal.{Framed, leads_out, bad_side, Sound};
+ghost use Rattle.std.specs.Prelude.{◌≡◌, ◌*◌, ◌<◌, ◌≤◌, not, ◌==◌, Some, None, if◌then◌else◌, IfOk, IfErr};
+ghost use Rattle.formats.specs.Faults.{number_of};
+ghost use Rattle.block.specs.Layout.{width, height, cell_count, cell_at, bit_of, cell_of, side_of, opened, inside, neighbour, filled};
+ghost use Rattle.block.specs.Refusal.{leads_out, bad_side, refusal};
+ghost use Rattle.block.specs.Meaning.{Frame};
 
-/// A side of a cell.
+use formats::OpenFault;
+
+/// A side of a cell, as the bit of the cell's byte that opens it.
 #[derive(Clone, Copy)]
 pub enum Side {
-    North,
-    East,
-    South,
-    West,
+    North = 1,
+    East = 2,
+    South = 4,
+    West = 8,
 }
 
-// How many cells the head says.
-pub(crate) fn cell_count(bytes: &[u8]) -> usize
-    requires { Framed bytes.now }
-    ensures { result ≡ cell_count bytes.now }
-{
-    bytes[1] as usize * bytes[2] as usize
-}
-
-// The side whose slot comes after d others of its cell.
-fn nth_side(d: usize) -> Side
-    ensures { result ≡ ordered d }
-{
-    match d {
-        0 => Side::North,
-        1 => Side::East,
-        2 => Side::South,
-        _ => Side::West,
+impl Side {
+    fn bit(self) -> u8
+        ensures { result ≡ bit_of self }
+    {
+        self as u8
     }
 }
 
-// The bit of a cell that opens a side.
-fn bit_of(side: Side) -> u8
-    ensures value { result ≡ bit_of side }
-    ensures some { 0 < result }
+// The sides in the order of their slots.
+const SIDES: [Side; 4] = [Side::North, Side::East, Side::South, Side::West];
+
+// The cell of slot e, and its side.
+pub(crate) fn place_of(e: u16) -> (u16, Side)
+    requires { 0 < e }
+    ensures cell { result.0 ≡ cell_of e }
+    ensures side { result.1 ≡ side_of e }
 {
-    match side {
-        Side::North => 1,
-        Side::East => 2,
-        Side::South => 4,
-        Side::West => 8,
+    ((e - 1) / 4 + 1, SIDES[usize::from((e - 1) % 4)])
+}
+
+// Bytes with a block's head, and just the length that it says.
+#[derive(Clone, Copy)]
+pub(crate) struct Cells<'a> {
+    pub(crate) bytes: &'a [u8],
+    ghost framed: { Frame bytes.now },
+}
+
+impl<'a> Cells<'a> {
+    // The cells that the bytes hold, or the first fault of their head or their length.
+    pub(crate) fn read(bytes: &'a [u8]) -> Result<Cells<'a>, OpenFault>
+        ensures cells { IfOk result (λ cells. cells.bytes.now ≡ bytes.now) }
+        ensures fault { IfErr result (λ fault. number_of fault ≡ refusal bytes.now) }
+    {
+        if bytes.len() < 3 {
+            return Err(OpenFault::Short);
+        }
+        if bytes[0] != 0x47 {
+            return Err(OpenFault::FirstByte);
+        }
+        let count = usize::from(bytes[1]) * usize::from(bytes[2]);
+        if count == 0 || count > 128 {
+            return Err(OpenFault::Range);
+        }
+        if bytes.len() != 3 + count {
+            return Err(OpenFault::Size);
+        }
+        Ok(Cells { bytes })
     }
-}
 
-// Whether the side of cell j is open.
-fn is_open(bytes: &[u8], j: usize, side: Side) -> bool
-    requires { (Framed bytes.now) × (j ≤ cell_count bytes.now) }
-    ensures { result ≡ opened bytes.now j side }
-{
-    bytes[j + 2] / bit_of(side) % 2 == 1
-}
-
-// Whether the neighbour of cell j at the side lies in the block.
-fn is_inside(bytes: &[u8], j: usize, side: Side) -> bool
-    requires { (Framed bytes.now) × ((0 < j) × (j ≤ cell_count bytes.now)) }
-    ensures { result ≡ inside bytes.now j side }
-{
-    let width = bytes[1] as usize;
-    let height = bytes[2] as usize;
-    let row = (j - 1) / width;
-    let column = (j - 1) % width;
-    match side {
-        Side::North => row > 0,
-        Side::East => column + 1 < width,
-        Side::South => row + 1 < height,
-        Side::West => column > 0,
+    fn width(&self) -> u16
+        ensures { result ≡ width self.now.bytes.now }
+    {
+        u16::from(self.bytes[1])
     }
-}
 
-// The neighbour of cell j at the side, which lies in the block.
-fn beside(bytes: &[u8], j: usize, side: Side) -> usize
-    requires { (Framed bytes.now) × ((0 < j) × ((j ≤ cell_count bytes.now) × (inside bytes.now j side ≡ true))) }
-    ensures value { result ≡ neighbour bytes.now j side }
-    ensures within { result ≤ cell_count bytes.now }
-{
-    let width = bytes[1] as usize;
-    match side {
-        Side::North => j - width,
-        Side::East => j + 1,
-        Side::South => j + width,
-        Side::West => j - 1,
+    fn height(&self) -> u16
+        ensures { result ≡ height self.now.bytes.now }
+    {
+        u16::from(self.bytes[2])
     }
-}
 
-// Whether slot e holds a street.
-pub(crate) fn is_filled(bytes: &[u8], e: usize) -> bool
-    requires { Framed bytes.now }
-    ensures { result ≡ filled bytes.now e }
-{
-    e > 0 && e <= 4 * cell_count(bytes) && is_open(bytes, (e - 1) / 4 + 1, nth_side((e - 1) % 4))
-}
+    // How many cells there are.
+    pub(crate) fn count(&self) -> u16
+        ensures { result ≡ cell_count self.now.bytes.now }
+    {
+        self.width() * self.height()
+    }
 
-// Whether the side of slot e is open and leads out of the block.
-fn leads_out(bytes: &[u8], e: usize) -> bool
-    requires { (Framed bytes.now) × ((0 < e) × (e ≤ 4 * cell_count bytes.now)) }
-    ensures { result ≡ leads_out bytes.now e }
-{
-    let j = (e - 1) / 4 + 1;
-    let side = nth_side((e - 1) % 4);
-    is_open(bytes, j, side) && !is_inside(bytes, j, side)
-}
+    // The byte of cell j.
+    pub(crate) fn cell(&self, j: u16) -> u8
+        requires { j ≤ cell_count self.now.bytes.now }
+        ensures { result ≡ cell_at self.now.bytes.now j }
+    {
+        self.bytes[usize::from(j) + 2]
+    }
 
-// The lowest slot whose side leads out of the block, or 0.
-pub(crate) fn first_bad_side(bytes: &[u8]) -> usize
-    requires { Framed bytes.now }
-    ensures { result ≡ bad_side bytes.now }
-{
-    for e in 1..4 * cell_count(bytes) + 1 {
-        if leads_out(bytes, e) {
-            return e;
+    // Whether the side of cell j is open.
+    fn is_open(&self, j: u16, side: Side) -> bool
+        requires { j ≤ cell_count self.now.bytes.now }
+        ensures { result ≡ opened self.now.bytes.now j side }
+    {
+        self.cell(j) & side.bit() != 0
+    }
+
+    // The neighbour of cell j at the side, if it lies in the block.
+    pub(crate) fn beside(&self, j: u16, side: Side) -> Option<u16>
+        requires { (0 < j) × (j ≤ cell_count self.now.bytes.now) }
+        ensures { result ≡ (if inside self.now.bytes.now j side then Some (neighbour self.now.bytes.now j side) else None) }
+    {
+        let width = self.width();
+        let row = (j - 1) / width;
+        let column = (j - 1) % width;
+        match side {
+            Side::North if row > 0 => Some(j - width),
+            Side::East if column + 1 < width => Some(j + 1),
+            Side::South if row + 1 < self.height() => Some(j + width),
+            Side::West if column > 0 => Some(j - 1),
+            _ => None,
         }
     }
-    0
-}
 
-// What slot e holds.
-pub(crate) fn street_at(bytes: &[u8], e: usize) -> Option<(u16, u16, u32)>
-    requires { Sound bytes.now }
-    ensures { result ≡ street_at bytes.now e }
-{
-    if !is_filled(bytes, e) {
-        return None;
+    // Whether slot e holds a street.
+    pub(crate) fn is_filled(&self, e: u16) -> bool
+        ensures { result ≡ filled self.now.bytes.now e }
+    {
+        if e == 0 || e > 4 * self.count() {
+            return false;
+        }
+        let (j, side) = place_of(e);
+        self.is_open(j, side)
     }
-    let j = (e - 1) / 4 + 1;
-    let to = beside(bytes, j, nth_side((e - 1) % 4));
-    let length = 1 + (bytes[to + 2] / 16) as u32;
-    Some((j as u16, to as u16, length))
+
+    // Whether the side of slot e is open and leads out of the block.
+    fn leads_out(&self, e: u16) -> bool
+        requires { (0 < e) × (e ≤ 4 * cell_count self.now.bytes.now) }
+        ensures { result ≡ leads_out self.now.bytes.now e }
+    {
+        let (j, side) = place_of(e);
+        self.is_open(j, side) && self.beside(j, side).is_none()
+    }
+
+    // Whether an open side leads out of the block.
+    pub(crate) fn opens_out(&self) -> bool
+        ensures { result ≡ not (bad_side self.now.bytes.now == 0) }
+    {
+        (1..=4 * self.count()).any(|e| self.leads_out(e))
+    }
 }

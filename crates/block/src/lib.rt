@@ -5,18 +5,18 @@
 // of the bytes, and says nothing of who may change them.
 #![tactic(auto)]
 
-ghost use Rattle.std.specs.Prelude.{◌≡◌, ◌<◌, true, false, is_ok};
+ghost use Rattle.std.specs.Prelude.{◌≡◌, true, false, is_ok};
 ghost use Rattle.maps.specs.Graph.{Leaves, Enters, Lowest};
 ghost use Rattle.formats.specs.Faults.{answered};
 ghost use Rattle.block.specs.Layout.{block_graph, least_bytes};
-ghost use Rattle.block.specs.Refusal.{refusal, Framed, Sound};
+ghost use Rattle.block.specs.Refusal.{refusal, Sound};
 ghost use Rattle.block.specs.Laws.{block_lawful};
 ghost use Rattle.block.specs.Meaning.{Judged, RefusalsMean, Says};
 
 pub mod cells;
 
-use cells::{cell_count, first_bad_side, is_filled, street_at};
-use formats::OpenFault;
+use cells::{Cells, place_of};
+use formats::{MapFile, OpenFault};
 use maps::{Map, TwoWay};
 
 /// A map over the bytes of a block.
@@ -40,26 +40,13 @@ pub fn least_block<'a>() -> Block<'a>
 fn check(bytes: &[u8]) -> Result<(), OpenFault>
     ensures { answered result ≡ refusal bytes.now }
 {
-    if bytes.len() < 3 {
-        return Err(OpenFault::Short);
-    }
-    if bytes[0] != 0x47 {
-        return Err(OpenFault::FirstByte);
-    }
-    let width = bytes[1] as usize;
-    let height = bytes[2] as usize;
-    if width == 0 || height == 0 || width * height > 128 {
-        return Err(OpenFault::Range);
-    }
-    if bytes.len() != 3 + width * height {
-        return Err(OpenFault::Size);
-    }
-    if first_bad_side(bytes) != 0 {
+    if Cells::read(bytes)?.opens_out() {
         return Err(OpenFault::Edge);
     }
     Ok(())
 }
 
+// Beside `MapFile::open`, since its contract says in the layout's own words what is admitted.
 /// Fills the place with the block that the bytes hold, or answers why they hold none.
 pub fn open_block<'a>(bytes: &'a [u8], place: &mut Block<'a>) -> Result<(), OpenFault>
     ensures number { answered result ≡ refusal bytes.now }
@@ -68,43 +55,36 @@ pub fn open_block<'a>(bytes: &'a [u8], place: &mut Block<'a>) -> Result<(), Open
     ensures says { is_ok result ≡ true → Says bytes.now (block_graph place.new.bytes.now) }
     ensures kept { is_ok result ≡ false → place.new ≡ place.old }
 {
-    match check(bytes) {
-        Ok(()) => {
-            *place = Block { bytes };
-            Ok(())
-        }
-        Err(fault) => Err(fault),
-    }
+    check(bytes)?;
+    *place = Block { bytes };
+    Ok(())
 }
 
-// The lowest street above `after` whose tail is v: one of the four slots of cell v.
-fn lowest_leaving(bytes: &[u8], v: usize, after: usize) -> Option<u16>
-    requires { (Sound bytes.now) × ((after < 65536) × (v < 65536)) }
-    ensures { Lowest (Leaves (block_graph bytes.now) v) after result }
-{
-    let last = (4 * v).min(4 * cell_count(bytes));
-    let before = after.max((4 * v).saturating_sub(4));
-    for e in before + 1..last + 1 {
-        if is_filled(bytes, e) {
-            return Some(e as u16);
-        }
+impl<'a> Block<'a> {
+    fn cells(&self) -> Cells<'a>
+        ensures { result.bytes ≡ self.now.bytes }
+    {
+        Cells { bytes: self.bytes }
     }
-    None
-}
 
-// The lowest street above `after` whose head is v.
-fn lowest_entering(bytes: &[u8], v: u16, after: u16) -> Option<u16>
-    requires { Sound bytes.now }
-    ensures { Lowest (Enters (block_graph bytes.now) v) after result }
-{
-    for e in after as usize + 1..4 * cell_count(bytes) + 1 {
-        if let Some((_, head, _)) = street_at(bytes, e) {
-            if head == v {
-                return Some(e as u16);
-            }
+    // The lowest street above `after` whose tail is v: one of the four slots of cell v.
+    fn lowest_leaving(&self, v: u16, after: u16) -> Option<u16>
+        ensures { Lowest (Leaves (block_graph self.now.bytes.now) v) after result }
+    {
+        let cells = self.cells();
+        if v == 0 || v > cells.count() {
+            return None;
         }
+        (4 * v - 3..=4 * v).find(|&e| e > after && cells.is_filled(e))
     }
-    None
+
+    // The lowest street above `after` whose head is v.
+    fn lowest_entering(&self, v: u16, after: u16) -> Option<u16>
+        ensures { Lowest (Enters (block_graph self.now.bytes.now) v) after result }
+    {
+        (1..=self.slots()).find(|&e| e > after
+            && matches!(self.slot(e), Some((_, head, _)) if head == v))
+    }
 }
 
 impl<'a> Map for Block<'a> {
@@ -113,39 +93,55 @@ impl<'a> Map for Block<'a> {
     ghost lawful = { λ s. block_lawful s.bytes.now s.sound };
 
     fn junctions(&self) -> u16 {
-        self.bytes[1] as u16 * self.bytes[2] as u16
+        self.cells().count()
     }
 
     fn slots(&self) -> u16 {
-        4 * (self.bytes[1] as u16 * self.bytes[2] as u16)
+        4 * self.cells().count()
     }
 
     fn slot(&self, e: u16) -> Option<(u16, u16, u32)> {
-        street_at(self.bytes, e as usize)
+        let cells = self.cells();
+        if !cells.is_filled(e) {
+            return None;
+        }
+        let (tail, side) = place_of(e);
+        let head = cells.beside(tail, side)?;
+        Some((tail, head, 1 + u32::from(cells.cell(head) / 16)))
     }
 
     fn first_leaving(&self, v: u16) -> Option<u16> {
-        lowest_leaving(self.bytes, v as usize, 0)
+        self.lowest_leaving(v, 0)
     }
 
     fn next_leaving(&self, e: u16) -> Option<u16> {
-        match street_at(self.bytes, e as usize) {
-            Some((tail, _, _)) => lowest_leaving(self.bytes, tail as usize, e as usize),
-            None => None,
-        }
+        let (tail, _, _) = self.slot(e)?;
+        self.lowest_leaving(tail, e)
     }
 }
 
 impl<'a> TwoWay for Block<'a> {
     fn first_entering(&self, v: u16) -> Option<u16> {
-        lowest_entering(self.bytes, v, 0)
+        self.lowest_entering(v, 0)
     }
 
     fn next_entering(&self, e: u16) -> Option<u16> {
-        match street_at(self.bytes, e as usize) {
-            Some((_, head, _)) => lowest_entering(self.bytes, head, e),
-            None => None,
-        }
+        let (_, head, _) = self.slot(e)?;
+        self.lowest_entering(head, e)
+    }
+}
+
+impl<'a> MapFile<'a> for Block<'a> {
+    ghost refusal = { refusal };
+
+    ghost held = { block_graph };
+
+    fn least() -> Self {
+        least_block()
+    }
+
+    fn open(bytes: &'a [u8], place: &mut Self) -> Result<(), OpenFault> {
+        open_block(bytes, place)
     }
 }
 

@@ -6,7 +6,6 @@ use Rattle.maps.specs.Graph.{Graph}
 use Rattle.lengths.specs.Kinds.{Kind}
 use Rattle.walks.specs.Walks.{BestOpen}
 use Rattle.walks.specs.Trees.{OnMap}
-use Rattle.walks.proofs.Facts.{none≢some, same_some}
 use Rattle.calls.specs.Moments.{Moment, created, on_map, ask_fault, after}
 use Rattle.calls.specs.Gives.{Replied, found, answer_of, RightAnswer, Gives}
 use Rattle.calls.specs.Lives.{Life, after_all, closed_by}
@@ -30,26 +29,26 @@ pub record AnswerAt (K : Kind) (G : Graph) (m : Moment) (c : Call) (a : Option A
 
 pub answer_at : (K : Kind) (G : Graph) (cs : List Call) (m : Moment) (rs : List Answer) → Life K G m cs rs → (i : ℕ) (c : Call) → slice_get cs i ≡ Some c
     → AnswerAt K G (after_all G m (take i cs)) c (slice_get rs i)
-answer_at K G [] m rs l i c h = absurd (none≢some refl h)
+answer_at K G [] m rs l i c h = cc
 answer_at K G (x ∷ cs) m [] l i c h = elim l [ ]
-answer_at K G (x ∷ cs) m (a ∷ rs) l zero c h = record { answer = a; is = refl; gives = subst (λ (d : Call). Gives K G m d a) (same_some refl h) l.0 }
+answer_at K G (x ∷ cs) m (a ∷ rs) l zero c h = record { answer = a; is = refl; gives = subst (λ (d : Call). Gives K G m d a) (cc) l.0 }
 answer_at K G (x ∷ cs) m (a ∷ rs) l (suc i) c h = answer_at K G cs (after G m x) rs l.1 i c h
 
 -- ---- lengths
 module _ (K : Kind) (G : Graph) (m : Moment) (s t : ℕ) where
   best_found : (o : Option ℕ) (l q r : ℕ) → Length l q ≡ found o r → BestOpen K G.street m.closed s t o → BestLength K G.street m.closed s t l
-  best_found None l q r e b = absurd (let z : ◌≡◌ {A = ℕ} 0 1 = cc in omega arith)
+  best_found None l q r e b = cc
   best_found (Some k) l q r e b =
       let z : k ≡ l = cc in
       record { walked = (b.0.0, b.0.1, b.0.2, b.0.3 ∙ z); best = λ w p o. rw z at (b.1 w p o) }
 
   best_replied : (r : Result Reply Fault) (l q : ℕ) → Replied K G m s t r → Length l q ≡ answer_of r → BestLength K G.street m.closed s t l
   best_replied (Ok y) l q h e = best_found y.length l q y.redone e h.1.0
-  best_replied (Err f) l q h e = absurd (let z : ◌≡◌ {A = ℕ} 0 1 = cc in omega arith)
+  best_replied (Err f) l q h e = cc
 
   best_given : (b : Bool) (l q : ℕ) → cond b (RightAnswer K G m s t (Length l q)) (Length l q ≡ Refused StateLacks) → BestLength K G.street m.closed s t l
   best_given true l q h = best_replied h.0 l q h.1 h.2
-  best_given false l q h = absurd (let z : ◌≡◌ {A = ℕ} 0 1 = cc in omega arith)
+  best_given false l q h = cc
 
 -- ---- no way
 on_true : (G : Graph) (v : ℕ) → OnMap G v → on_map G v ≡ true
@@ -66,19 +65,19 @@ module _ (K : Kind) (G : Graph) (m : Moment) (s t : ℕ) where
     otherwise = λ w. absurd (b w.0 w.1 w.2);
   }
   way_found (Some l) r b = record {
-    only = λ q e w. let z : ◌≡◌ {A = ℕ} 0 1 = cc in omega arith;
+    only = λ q e w. cc;
     no_way = λ n. absurd (n (b.0.0, b.0.1, b.0.2));
     otherwise = λ w. (l, r, refl);
   }
 
   way_replied : (r : Result Reply Fault) → ask_fault G s t ≡ None → Replied K G m s t r → NoWayExactly G.street m.closed s t (Some (answer_of r))
   way_replied (Ok y) n h = way_found y.length y.redone h.1.0
-  way_replied (Err f) n h = absurd (none≢some n h)
+  way_replied (Err f) n h = cc
 
   way_given : (b : Bool) (a : Answer) → b ≡ true → ask_fault G s t ≡ None → cond b (RightAnswer K G m s t a) (a ≡ Refused StateLacks)
       → NoWayExactly G.street m.closed s t (Some a)
   way_given true a e n h = rw h.2 (way_replied h.0 n h.1)
-  way_given false a e n h = absurd (let z : ◌≡◌ {A = ℕ} 0 1 = cc in omega arith)
+  way_given false a e n h = cc
 
 -- ---- in a life
 pub lengths_best : (K : Kind) (G : Graph) (cs : List Call) (rs : List Answer) → Life K G created cs rs → LengthsBest K G cs rs
@@ -86,7 +85,7 @@ lengths_best K G cs rs life i s t l r c a =
     let m = after_all G created (take i cs) in
     let g = answer_at K G cs created rs life i (Ask s t) c in
     subst (λ (F : ℕ → Bool). BestLength K G.street F s t l) (closures_follow G (take i cs)).closed
-    (best_given K G m s t m.built l r (subst (λ (x : Answer). Gives K G m (Ask s t) x) (same_some g.is a) g.gives))
+    (best_given K G m s t m.built l r (subst (λ (x : Answer). Gives K G m (Ask s t) x) (cc (g.is, a)) g.gives))
 
 pub no_ways_exact : (K : Kind) (G : Graph) (cs : List Call) (rs : List Answer) → Life K G created cs rs → NoWaysExact G cs rs
 no_ways_exact K G cs rs life i s t c b p q =

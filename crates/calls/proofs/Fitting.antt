@@ -6,7 +6,6 @@ use Rattle.std.proofs.lemmas.List.{length_push}
 use Rattle.maps.specs.Graph.{Graph, LawfulMap}
 use Rattle.walks.specs.Streets.{member}
 use Rattle.walks.specs.Trees.{OnMap}
-use Rattle.walks.proofs.Facts.{none≢some}
 use Rattle.calls.specs.Moments.{Moment, created, on_map, name_fault, close_fault, reopen_fault, ask_fault, unless, with_name, marked, with_mark, with_ask, as_index, as_plan, after}
 use Rattle.calls.specs.Lives.{after_all}
 use Rattle.calls.specs.Fitting.{Different, FitsMap}
@@ -39,15 +38,15 @@ nameable G ns v = go (on_map G v) (member ns v) (leb 16 (length ns)) refl refl r
   where
     go : (a b c : Bool) → on_map G v ≡ a → member ns v ≡ b → leb 16 (length ns) ≡ c
         → cond (not a) (Some OffMap) (cond b (Some AlreadyNamed) (cond c (Some ListFull) None)) ≡ None → Nameable G ns v
-    go false b c p q r h = absurd (none≢some h refl)
-    go true true c p q r h = absurd (none≢some h refl)
-    go true false true p q r h = absurd (none≢some h refl)
+    go false b c p q r h = cc
+    go true true c p q r h = cc
+    go true false true p q r h = cc
     go true false false p q r h =
         let o = and_parts (leb 1 v) (leb v G.junctions) p in
         record { all_on_map = (omega (arith, leb-true 1 v o.0), leb-true v G.junctions o.1); new = q; room = leb-false 16 (length ns) r }
 
 closes_street : (x y : Bool) → cond (not x) (Some SlotAbsent) (cond y (Some AlreadyClosed) None) ≡ None → x ≡ true
-closes_street false y h = absurd (none≢some h refl)
+closes_street false y h = cc
 closes_street true y h = refl
 
 -- ---- each call keeps the fit
@@ -99,7 +98,7 @@ fits_after G m (Reopen e) h =
       all_on_map = h.all_on_map;
       different = h.different;
       small = h.small;
-      streets = marks_fit G m.closed e false (λ q. absurd (false≢true q)) h.streets;
+      streets = marks_fit G m.closed e false (λ q. cc) h.streets;
     })) h
 fits_after G m (Ask s t) h =
     fits_cond G m.built (unless (ask_fault G s t) m (with_ask m)) m
@@ -113,7 +112,7 @@ fits_all G [] m h = h
 fits_all G (c ∷ cs) m h = fits_all G cs (after G m c) (fits_after G m c h)
 
 pub fits_created : (G : Graph) → FitsMap G created
-fits_created G = record { few = omega arith; all_on_map = tt; different = tt; streets = λ e h. absurd (false≢true h); small = omega arith }
+fits_created G = record { few = omega arith; all_on_map = tt; different = tt; streets = λ e h. cc; small = omega arith }
 
 pub lives_fit : LivesFit
 lives_fit G cs = fits_all G cs created (fits_created G)

@@ -1,5 +1,5 @@
 -- Plan or index, and which slots are closed, follow from the calls; a refused call changes nothing.
-use Rattle.std.proofs.Common.{◌≡◌, ℕ, Bool, true, false, cond, not, ◌&&◌, eqb, List, [], ◌∷◌, is_some, Some, None, Ok, Err, Option, Result, sym, refl, ap, ◌∙◌, ⊎_elim, arith}
+use Rattle.std.proofs.Common.{◌≡◌, ℕ, Bool, true, false, cond, not, ◌&&◌, eqb, List, [], ◌∷◌, is_some, Some, None, Ok, Err, Option, Result, sym, refl, ap, ◌∙◌, ⊎_elim}
 use mathlib.Core.Path.{fun_ext}
 use Rattle.std.proofs.lemmas.Bool.{cases_Bool, eqb-true}
 use Rattle.maps.specs.Graph.{Graph}
@@ -90,7 +90,7 @@ closures_follow G cs = record { built = built_all G cs created; closed = closed_
 
 -- ---- refusals
 keeps_unless : (o : Option Fault) (x y : Moment) (f : Fault) → Refused f ≡ said o → unless o x y ≡ x
-keeps_unless None x y f h = absurd (let z : ◌≡◌ {A = ℕ} 0 1 = cc in omega arith)
+keeps_unless None x y f h = cc
 keeps_unless (Some g) x y f h = refl
 
 keeps_plan : (b : Bool) (o : Option Fault) (x y : Moment) (f : Fault) → Refused f ≡ cond b (Refused StateLacks) (said o) → cond b x (unless o x y) ≡ x
@@ -102,8 +102,8 @@ keeps_index true o x y f h = keeps_unless o x y f h
 keeps_index false o x y f h = refl
 
 not_found : (o : Option ℕ) (r : ℕ) (f : Fault) → Refused f ≡ found o r → ⊥
-not_found None r f h = let z : ◌≡◌ {A = ℕ} 0 1 = cc in omega arith
-not_found (Some l) r f h = let z : ◌≡◌ {A = ℕ} 0 1 = cc in omega arith
+not_found None r f h = cc
+not_found (Some l) r f h = cc
 
 keeps_ask : (K : Kind) (G : Graph) (m : Moment) (s t : ℕ) (f : Fault) (r : Result Reply Fault) → Replied K G m s t r → Refused f ≡ answer_of r
     → unless (ask_fault G s t) m (with_ask m) ≡ m

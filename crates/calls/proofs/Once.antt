@@ -1,8 +1,7 @@
 -- Each call has one answer, so a list of calls has one life.
-use Rattle.std.proofs.Common.{◌≡◌, ℕ, Bool, true, false, cond, List, [], ◌∷◌, Ok, Err, Result, sym, refl, ap, ◌∙◌, ap₂}
+use Rattle.std.proofs.Common.{◌≡◌, ℕ, Bool, true, false, cond, List, [], ◌∷◌, Ok, Err, Result, sym, refl, ◌∙◌, ap₂}
 use Rattle.maps.specs.Graph.{Graph}
 use Rattle.lengths.specs.Kinds.{Kind, LawfulKind}
-use Rattle.walks.proofs.Facts.{none≢some, same_some}
 use Rattle.walks.proofs.Walks.{CodeLengths}
 use Rattle.walks.proofs.Runs.{lawful_is_coded}
 use Rattle.walks.proofs.OneAnswer.{best_open_one}
@@ -21,9 +20,9 @@ use Rattle.calls.specs.declared.Reply.{Reply}
 
 module _ (K : Kind) (law : LawfulKind K) (G : Graph) (codes : CodeLengths G.street) where
   replied_once : (m : Moment) (s t : ℕ) (x y : Result Reply Fault) → Replied K G m s t x → Replied K G m s t y → answer_of x ≡ answer_of y
-  replied_once m s t (Err f) (Err g) p q = ap Refused (same_some p q)
-  replied_once m s t (Err f) (Ok y) p q = absurd (none≢some q.0 p)
-  replied_once m s t (Ok x) (Err g) p q = absurd (none≢some p.0 q)
+  replied_once m s t (Err f) (Err g) p q = cc
+  replied_once m s t (Err f) (Ok y) p q = cc
+  replied_once m s t (Ok x) (Err g) p q = cc
   replied_once m s t (Ok x) (Ok y) p q =
       ap₂ found (best_open_one K law G.street codes m.closed s t x.length y.length p.1.0 q.1.0)
       (redone_once K G m.listed m.closed s x.redone y.redone p.1.1 q.1.1)

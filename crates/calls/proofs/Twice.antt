@@ -1,5 +1,5 @@
 -- Two lives. Apart from redone, the closes, reopens, asks and tallies of an orderly life are the life of an index without transit nodes.
-use Rattle.std.proofs.Common.{◌≡◌, ℕ, Bool, true, false, cond, List, [], ◌∷◌, Some, None, Ok, Err, Option, Result, sym, refl, ap, ◌∙◌, subst, ap₂, arith}
+use Rattle.std.proofs.Common.{◌≡◌, ℕ, Bool, true, false, cond, List, [], ◌∷◌, Some, None, Ok, Err, Option, Result, sym, refl, ap, ◌∙◌, subst, ap₂}
 use mathlib.Core.Path.{fun_ext}
 use Rattle.maps.specs.Graph.{Graph}
 use Rattle.lengths.specs.Kinds.{Kind}
@@ -47,25 +47,25 @@ bare_cond false x y z p q = q
 -- a call of the index that may be refused
 bare_step : (b : Bool) (f : Option Fault) (x y : Moment) → b ≡ true → bare (cond b (unless f x y) x) ≡ unless f (bare x) (bare y)
 bare_step true f x y e = bare_unless f x y
-bare_step false f x y e = absurd (let z : ◌≡◌ {A = ℕ} 0 1 = cc in omega arith)
+bare_step false f x y e = cc
 
 -- one that tells leaves what it leaves of the bare index
 tells_leave : (G : Graph) (m : Moment) (c : Call) → tells c ≡ true → has_call m.built c ≡ true → bare (after G m c) ≡ after (streets_of G) (bare m) c
-tells_leave G m (Name v) h o = absurd (let z : ◌≡◌ {A = ℕ} 0 1 = cc in omega arith)
-tells_leave G m Build h o = absurd (let z : ◌≡◌ {A = ℕ} 0 1 = cc in omega arith)
+tells_leave G m (Name v) h o = cc
+tells_leave G m Build h o = cc
 tells_leave G m (Close e) h o = bare_step m.built (close_fault G m.closed e) m (with_mark m e true) o
 tells_leave G m (Reopen e) h o = bare_step m.built (reopen_fault G m.closed e) m (with_mark m e false) o
 tells_leave G m (Ask s t) h o = bare_step m.built (ask_fault G s t) m (with_ask m) o
 tells_leave G m Tally h o = refl
-tells_leave G m Replan h o = absurd (let z : ◌≡◌ {A = ℕ} 0 1 = cc in omega arith)
+tells_leave G m Replan h o = cc
 
 -- and any other leaves the bare index as it is
 others_leave : (G : Graph) (m : Moment) (c : Call) → tells c ≡ false → bare (after G m c) ≡ bare m
 others_leave G m (Name v) h = bare_cond m.built m (unless (name_fault G m.listed v) m (with_name m v)) (bare m) refl (bare_same (name_fault G m.listed v) m (with_name m v) refl)
 others_leave G m Build h = bare_cond m.built m (as_index m) (bare m) refl refl
-others_leave G m (Close e) h = absurd (let z : ◌≡◌ {A = ℕ} 0 1 = cc in omega arith)
-others_leave G m (Reopen e) h = absurd (let z : ◌≡◌ {A = ℕ} 0 1 = cc in omega arith)
-others_leave G m (Ask s t) h = absurd (let z : ◌≡◌ {A = ℕ} 0 1 = cc in omega arith)
+others_leave G m (Close e) h = cc
+others_leave G m (Reopen e) h = cc
+others_leave G m (Ask s t) h = cc
 others_leave G m Tally h = refl
 others_leave G m Replan h = bare_cond m.built (as_plan m) m (bare m) refl refl
 
@@ -86,21 +86,21 @@ apart_replied K G m s t (Err f) h = (Err f, h, refl)
 -- where an index says x, so does the bare index
 apart_equal : (b : Bool) (a x : Answer) → b ≡ true → apart_from_redone x ≡ x → a ≡ cond b x (Refused StateLacks) → apart_from_redone a ≡ x
 apart_equal true a x e p h = ap apart_from_redone h ∙ p
-apart_equal false a x e p h = absurd (let z : ◌≡◌ {A = ℕ} 0 1 = cc in omega arith)
+apart_equal false a x e p h = cc
 
 tells_answer : (K : Kind) (G : Graph) (m : Moment) (c : Call) (a : Answer) → tells c ≡ true → has_call m.built c ≡ true
     → Gives K G m c a → Gives K (streets_of G) (bare m) c (apart_from_redone a)
-tells_answer K G m (Name v) a h o p = absurd (let z : ◌≡◌ {A = ℕ} 0 1 = cc in omega arith)
-tells_answer K G m Build a h o p = absurd (let z : ◌≡◌ {A = ℕ} 0 1 = cc in omega arith)
+tells_answer K G m (Name v) a h o p = cc
+tells_answer K G m Build a h o p = cc
 tells_answer K G m (Close e) a h o p = apart_equal m.built a (said (close_fault G m.closed e)) o (apart_said (close_fault G m.closed e)) p
 tells_answer K G m (Reopen e) a h o p = apart_equal m.built a (said (reopen_fault G m.closed e)) o (apart_said (reopen_fault G m.closed e)) p
 tells_answer K G m (Ask s t) a h o p = go m.built o p
   where
     go : (b : Bool) → b ≡ true → cond b (RightAnswer K G m s t a) (a ≡ Refused StateLacks) → RightAnswer K (streets_of G) (bare m) s t (apart_from_redone a)
     go true e q = subst (λ (x : Answer). RightAnswer K (streets_of G) (bare m) s t (apart_from_redone x)) (sym q.2) (apart_replied K G m s t q.0 q.1)
-    go false e q = absurd (let z : ◌≡◌ {A = ℕ} 0 1 = cc in omega arith)
+    go false e q = cc
 tells_answer K G m Tally a h o p = apart_equal m.built a (Count m.tally) o refl p
-tells_answer K G m Replan a h o p = absurd (let z : ◌≡◌ {A = ℕ} 0 1 = cc in omega arith)
+tells_answer K G m Replan a h o p = cc
 
 -- ---- a life
 module _ (K : Kind) (G : Graph) where

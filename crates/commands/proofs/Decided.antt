@@ -1,5 +1,7 @@
 -- What `decided` gives is what the line stands for.
-use Rattle.std.proofs.Common.{◌≡◌, ℕ, suc, ◌<◌, ◌≤◌, Bool, true, false, cond, eqb, leb, List, [], ◌∷◌, map, length, Ok, Err, Result, sym, refl, ap, ◌∙◌, subst, inl, inr, arith, eqb-true, leb-false, leb-true}
+use Rattle.std.proofs.Common.{◌≡◌, ℕ, ◌<◌, ◌≤◌, Bool, true, false, cond, eqb, List, [], ◌∷◌, length, SomeIff, Some, None, Ok, Err, Option, Result, sym, refl, ap, ◌∙◌, subst, inl, inr, arith, eqb-true}
+use Rattle.std.proofs.lemmas.List.{length-map}
+use Rattle.std.specs.Option.{ok_or}
 use borrow.Author.Tests.{eqb-false}
 use Rattle.std.specs.List.{AllByRecursion}
 use Rattle.calls.specs.declared.Call.{Call}
@@ -8,10 +10,10 @@ use Rattle.commands.specs.Numbers.{IsNumeral, value_of}
 use Rattle.commands.specs.Parts.{Valued}
 use Rattle.commands.specs.Grammar.{letter_of, numbers_of, spaced, Spells}
 use Rattle.commands.specs.Outcome.{Outcome}
-use Rattle.commands.specs.Reading.{Follow, small_of, call_one, call_two, decided}
+use Rattle.commands.specs.Reading.{Follow, NoNumbers, small_of, call_one, call_two, decided}
 use Rattle.commands.specs.declared.tokens.Numeral.{Numeral}
 use Rattle.commands.specs.declared.command.Numbers.{Numbers}
-use Rattle.commands.specs.declared.command.Numbers.TheVariants.{Zero, One, Two, Other}
+use Rattle.commands.specs.declared.command.Numbers.TheVariants.{Zero, One, Two}
 use Rattle.commands.specs.declared.command.LineFault.{LineFault}
 use Rattle.commands.specs.declared.command.LineFault.TheVariants.{NoForm, TooLarge}
 use Rattle.commands.proofs.Shapes.{spaced_same, head, tail}
@@ -19,10 +21,6 @@ use Rattle.commands.proofs.Shapes.{spaced_same, head, tail}
 -- no call has this letter and as many numbers
 abbrev NoCall : ℕ → ℕ → Type 0
 NoCall b k = (c : Call) → b ≡ letter_of c → length (numbers_of c) ≡ k → ⊥
-
-map_length : (ns : List (List ℕ)) → length (map value_of ns) ≡ length ns
-map_length [] = refl
-map_length (n ∷ ns) = ap suc (map_length ns)
 
 few : (c : Call) → length (numbers_of c) ≤ 2
 few Build = omega arith
@@ -37,7 +35,7 @@ few (Ask s t) = omega arith
 no_form : (b : ℕ) (ns : List (List ℕ)) (rest : List ℕ) → AllByRecursion IsNumeral ns → rest ≡ spaced ns → NoCall b (length ns) → Outcome (b ∷ rest) (Err NoForm)
 no_form b ns rest num is none c ms s =
     let same = spaced_same ns ms num s.numerals (sym is ∙ tail _ _ _ _ s.bytes) in
-    none c (head _ _ _ _ s.bytes) (sym (ap length s.values) ∙ map_length ms ∙ ap length (sym same))
+    none c (head _ _ _ _ s.bytes) (sym (ap length s.values) ∙ length-map ms value_of ∙ ap length (sym same))
 
 -- the value of a number is small, or its digits are refused
 data Sized (a : Numeral) : Result ℕ LineFault → Type 0 where
@@ -45,14 +43,11 @@ data Sized (a : Numeral) : Result ℕ LineFault → Type 0 where
   large : 65535 < value_of a.digits.now → Sized a (Err (TooLarge a.digits))
 
 sized : (a : Numeral) → Valued a → Sized a (small_of a)
-sized a is = go (leb a.value 65535) refl
+sized a is = go a.value is.1
   where
-    go : (t : Bool) → leb a.value 65535 ≡ t → Sized a (cond t (Ok a.value) (Err (TooLarge a.digits)))
-    go true e =
-        let low = leb-true a.value 65535 e in
-        let v : a.value ≡ value_of a.digits.now = omega (arith, is.1) in
-        subst (λ k. Sized a (Ok k)) (sym v) (fits (omega (arith, is.1)))
-    go false e = let high = leb-false a.value 65535 e in large (omega (arith, is.1))
+    go : (r : Option ℕ) → SomeIff r (value_of a.digits.now ≤ 65535) (value_of a.digits.now) → Sized a (ok_or r (TooLarge a.digits))
+    go (Some n) h = subst (λ k. Sized a (Ok k)) (sym h.1) (fits h.0)
+    go None h = large (omega (arith, h))
 
 -- a call without numbers
 bare : (b : ℕ) (rest : List ℕ) (c : Call) → rest ≡ [] → b ≡ letter_of c → numbers_of c ≡ [] → Outcome (b ∷ rest) (Ok c)
@@ -125,4 +120,7 @@ pub outcome : (b : ℕ) (rest : List ℕ) (a : Numbers) → Follow rest a → Ou
 outcome b rest Zero h = zero_case b rest h (eqb b 66) (eqb b 78) (eqb b 80) refl refl refl
 outcome b rest (One a) h = one_case b rest a h.0 h.1 (eqb b 84) (eqb b 67) (eqb b 82) refl refl refl
 outcome b rest (Two x y) h = two_case b rest x y h.0 h.1 h.2 (eqb b 81) refl
-outcome b rest Other h = λ c ms s. h ms (omega (arith, few c, ap length s.values, map_length ms)) s.numerals (tail _ _ _ _ s.bytes)
+
+-- a line whose letter no numbers of a call follow
+pub unnumbered : (b : ℕ) (rest : List ℕ) → NoNumbers 2 rest → Outcome (b ∷ rest) (Err NoForm)
+unnumbered b rest h c ms s = h ms (omega (arith, few c, ap length s.values, length-map ms value_of)) s.numerals (tail _ _ _ _ s.bytes)

@@ -6,14 +6,11 @@ use Rattle.commands.specs.Numbers.{is_digit, IsNumeral}
 use Rattle.commands.specs.Parts.{Spaceless, Front, bytes_of}
 use Rattle.commands.specs.Grammar.{letter_of, spaced, Spells}
 use Rattle.commands.specs.Outcome.{Outcome}
-use Rattle.commands.specs.Reading.{Follow, decided}
-use Rattle.commands.specs.declared.command.Numbers.{Numbers}
 use Rattle.commands.specs.declared.command.LineFault.{LineFault}
 use Rattle.commands.specs.declared.command.LineFault.TheVariants.{NoForm}
 use Rattle.commands.specs.declared.tokens.Token.{Token}
 use Rattle.commands.proofs.Spaces.{apart}
 use Rattle.commands.proofs.Shapes.{spaced_stops}
-use Rattle.commands.proofs.Decided.{outcome}
 
 letter_spaceless : (c : Call) → Spaceless (letter_of c ∷ [])
 letter_spaceless (Name v) = (refl, tt)
@@ -49,11 +46,9 @@ module _ (line : List ℕ) (t : Token) (rest : List ℕ) (f : Front line t rest)
   pub no_letter : (length (bytes_of t) ≡ 1 → ⊥) → Outcome line (Err NoForm)
   no_letter other c ns s = other (ap length (lettered c ns s))
 
-  -- a letter and the numbers that follow it
-  pub letter_first : length (bytes_of t) ≡ 1 → (numbers : Numbers) → Follow rest numbers → (r : Result Call LineFault) → r ≡ decided (get_or (bytes_of t) 0 0) numbers → Outcome line r
-  letter_first is numbers follow r e =
-      let whole : line ≡ get_or (bytes_of t) 0 0 ∷ rest = f.parted.whole ∙ ap (λ w. w ++ rest) (one_byte (bytes_of t) is) in
-      subst (Outcome line) (sym e) (subst (λ l. Outcome l (decided (get_or (bytes_of t) 0 0) numbers)) (sym whole) (outcome (get_or (bytes_of t) 0 0) rest numbers follow))
+  -- a line that begins with one byte stands for what that byte and the rest stand for
+  pub letter_first : length (bytes_of t) ≡ 1 → (r : Result Call LineFault) → Outcome (get_or (bytes_of t) 0 0 ∷ rest) r → Outcome line r
+  letter_first is r told = subst (λ l. Outcome l r) (sym (f.parted.whole ∙ ap (λ w. w ++ rest) (one_byte (bytes_of t) is))) told
     where
       one_byte : (w : List ℕ) → length w ≡ 1 → w ≡ get_or w 0 0 ∷ []
       one_byte [] h = absurd (omega arith)

@@ -1,5 +1,4 @@
 pub mod First
-pub mod Spelled
 pub mod Spaces
 pub mod Shapes
 pub mod Decided

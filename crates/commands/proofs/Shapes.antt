@@ -1,5 +1,5 @@
 -- The numbers of a line, read one by one.
-use Rattle.std.proofs.Common.{◌≡◌, ℕ, suc, ◌≤◌, true, List, [], ◌∷◌, ◌++◌, length, sym, refl, ap, ◌∙◌, arith}
+use Rattle.std.proofs.Common.{◌≡◌, ℕ, suc, true, List, [], ◌∷◌, ◌++◌, length, sym, refl, ap, ◌∙◌, arith}
 use Rattle.std.specs.List.{AllByRecursion}
 use Rattle.std.proofs.ByRecursion.{All-weaker}
 use Rattle.std.proofs.lemmas.Bool.Decides.{nat_tests}
@@ -7,23 +7,12 @@ use Rattle.commands.specs.Text.{differs}
 use Rattle.commands.specs.Numbers.{is_digit, IsNumeral}
 use Rattle.commands.specs.Parts.{Spaceless, Stops}
 use Rattle.commands.specs.Grammar.{spaced}
-use Rattle.commands.specs.Reading.{NoNumber, SpacedNumber}
+use Rattle.commands.specs.Reading.{NoNumber, NoNumbers, SpacedNumber}
 use Rattle.commands.specs.declared.tokens.Numeral.{Numeral}
 use Rattle.commands.proofs.Spaces.{apart}
 
--- the text is not made of at most k numbers
-abbrev pub NoNumbers : ℕ → List ℕ → Type 0
-NoNumbers k text = (ns : List (List ℕ)) → length ns ≤ k → AllByRecursion IsNumeral ns → text ≡ spaced ns → ⊥
-
-pub empty : (xs : List ℕ) → length xs ≡ 0 → xs ≡ []
-empty [] h = refl
-empty (x ∷ xs) h = absurd (omega arith)
-
 filled : (xs : List ℕ) → (length xs ≡ 0 → ⊥) → xs ≡ [] → ⊥
 filled xs some e = some (ap length e)
-
-pub clash : (b : ℕ) (xs : List ℕ) → [] ≡ b ∷ xs → ⊥
-clash b xs e = let z : ◌≡◌ {A = ℕ} 0 1 = cc in omega arith
 
 pub head : (b c : ℕ) (xs ys : List ℕ) → b ∷ xs ≡ c ∷ ys → b ≡ c
 head b c xs ys e = cc
@@ -51,7 +40,7 @@ no_end text some [] few num e = filled text some e
 no_end text some (n ∷ ns) few num e = omega arith
 
 pub no_more : (k : ℕ) (text : List ℕ) (a : Numeral) (rest : List ℕ) → SpacedNumber text a rest → NoNumbers k rest → NoNumbers (suc k) text
-no_more k text a rest f none [] few num e = clash _ _ (sym e ∙ f.whole)
+no_more k text a rest f none [] few num e = cc (f.whole)
 no_more k text a rest f none (m ∷ ms) few num e =
     let same : a.digits.now ++ rest ≡ m ++ spaced ms = tail _ _ _ _ (sym f.whole ∙ e) in
     none ms (omega arith) num.1
@@ -60,8 +49,8 @@ no_more k text a rest f none (m ∷ ms) few num e =
 -- a text is made of numbers in one way
 pub spaced_same : (ns ms : List (List ℕ)) → AllByRecursion IsNumeral ns → AllByRecursion IsNumeral ms → spaced ns ≡ spaced ms → ns ≡ ms
 spaced_same [] [] p q e = refl
-spaced_same [] (m ∷ ms) p q e = absurd (clash _ _ e)
-spaced_same (n ∷ ns) [] p q e = absurd (clash _ _ (sym e))
+spaced_same [] (m ∷ ms) p q e = cc
+spaced_same (n ∷ ns) [] p q e = cc
 spaced_same (n ∷ ns) (m ∷ ms) p q e =
     let both = apart n m (spaced ns) (spaced ms) (numeral_spaceless n p.0) (numeral_spaceless m q.0) (spaced_stops ns) (spaced_stops ms) (tail _ _ _ _ e) in
     let others = spaced_same ns ms p.1 q.1 both.1 in

@@ -1,6 +1,5 @@
 -- Parts of a text up to a space.
-use Rattle.std.proofs.Common.{◌≡◌, ℕ, ◌+◌, ◌-◌, ◌≤◌, Bool, true, false, cond, List, [], ◌∷◌, ◌++◌, length, take, drop, sym, refl, ap, ◌∙◌, subst, one-add, arith, take-append-drop}
-use Rattle.std.proofs.lemmas.Slice.{between_to_end}
+use Rattle.std.proofs.Common.{◌≡◌, ℕ, ◌+◌, Bool, true, false, cond, List, [], ◌∷◌, ◌++◌, take, drop, sym, refl, ap, ◌∙◌, subst, one-add, arith, take-append-drop}
 use Rattle.commands.specs.Text.{differs, before}
 use Rattle.commands.specs.Parts.{Spaceless, Stops, Parted}
 
@@ -20,14 +19,12 @@ dropped_stops (b ∷ bs) = go (differs 32 b) refl (dropped_stops bs)
     go true e ih = rw (one-add (before 32 bs)) ih
     go false e ih = ap (λ t. cond t (1 + before 32 bs) 0) e
 
--- what `&text[0..n]` and `&text[n..]` hold
-pub fronted : (text : List ℕ) (n : ℕ) → n ≡ before 32 text → n ≤ length text → Parted text (take (n - 0) text) (take (length text - n) (drop n text))
-fronted text n is inside =
-    let e : n - 0 ≡ n = omega arith in
-    let back = between_to_end text n (length text) (omega arith) in
+-- a text that is split where its first space stands
+pub fronted : (text part rest : List ℕ) (n : ℕ) → n ≡ before 32 text → part ≡ take n text → rest ≡ drop n text → Parted text part rest
+fronted text part rest n is front back =
     record {
-      whole = rw (e, back) (sym (take-append-drop n text));
-      spaceless = rw e (subst (λ k. Spaceless (take k text)) (sym is) (taken_spaceless text));
+      whole = rw (front, back) (sym (take-append-drop n text));
+      spaceless = rw front (subst (λ k. Spaceless (take k text)) (sym is) (taken_spaceless text));
       stops = ap (before 32) back ∙ subst (λ k. Stops (drop k text)) (sym is) (dropped_stops text);
     }
 

@@ -1,5 +1,5 @@
 -- Numbers as they are written.
-use Rattle.std.specs.Prelude.{◌≡◌, ℕ, ◌+◌, ◌-◌, ◌*◌, ◌<◌, min, Bool, true, ◌&&◌, List, length, fold, nat_le}
+use Rattle.std.specs.Prelude.{◌≡◌, ℕ, ◌+◌, ◌-◌, ◌*◌, ◌<◌, Bool, true, ◌&&◌, List, length, fold, nat_le}
 use Rattle.std.specs.List.{AllByRecursion}
 
 -- b is one of the digits 0 to 9
@@ -13,7 +13,3 @@ IsNumeral ds = (0 < length ds) × AllByRecursion (λ d. is_digit d ≡ true) ds
 -- the number that digits write, in base ten
 abbrev pub value_of : List ℕ → ℕ
 value_of ds = fold (λ n d. n * 10 + (d - 48)) 0 ds
-
--- a number up to 65,535, and 65,536 for each one above
-abbrev pub capped : ℕ → ℕ
-capped n = min n 65536

@@ -1,8 +1,8 @@
 -- Which part of a line a token is.
-use Rattle.std.specs.Prelude.{◌≡◌, ℕ, true, List, ◌++◌}
+use Rattle.std.specs.Prelude.{◌≡◌, ℕ, ◌≤◌, true, SomeIff, List, ◌++◌}
 use Rattle.std.specs.List.{AllByRecursion}
 use Rattle.commands.specs.Text.{differs, before}
-use Rattle.commands.specs.Numbers.{IsNumeral, value_of, capped}
+use Rattle.commands.specs.Numbers.{IsNumeral, value_of}
 use Rattle.commands.specs.declared.tokens.Numeral.{Numeral}
 use Rattle.commands.specs.declared.tokens.Token.{Token}
 use Rattle.commands.specs.declared.tokens.Token.TheVariants.{Word, Number}
@@ -12,9 +12,9 @@ abbrev pub bytes_of : Token → List ℕ
 bytes_of (Word w) = w.now
 bytes_of (Number n) = n.digits.now
 
--- the digits are a number, and this is its value, or 65,536 if that is less
+-- the digits are a number, and this is its value, if that is at most 65,535
 abbrev pub Valued : Numeral → Type 0
-Valued n = IsNumeral n.digits.now × (n.value ≡ capped (value_of n.digits.now))
+Valued n = IsNumeral n.digits.now × SomeIff n.value (value_of n.digits.now ≤ 65535) (value_of n.digits.now)
 
 -- a token is a number exactly if its bytes are one
 abbrev pub Classed : Token → Type 0

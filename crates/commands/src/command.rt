@@ -1,8 +1,7 @@
 // The call that a line spells.
-ghost use Rattle.std.specs.Prelude.{◌≡◌, length, MatchOption};
-ghost use Rattle.std.specs.List.{between};
+ghost use Rattle.std.specs.Prelude.{◌≡◌, MatchOption};
 ghost use Rattle.commands.specs.Outcome.{line_fault_number, Outcome, Exact, Within, OneReading};
-ghost use Rattle.commands.specs.Reading.{SpaceFirst, NoNumber, SpacedNumber, Follow, small_of, decided};
+ghost use Rattle.commands.specs.Reading.{NoNumber, SpacedNumber, Follow, NoNumbers, small_of, decided};
 
 use crate::tokens::{Numeral, Token, next_token};
 use calls::Call;
@@ -17,7 +16,7 @@ pub enum LineFault<'a> {
 }
 
 impl LineFault<'_> {
-    // The number of the refusal.
+    // The number of the refusal. By cases, since a variant that holds digits has no discriminant.
     pub fn number(self) -> u8
         ensures { result ≡ line_fault_number self.entry }
     {
@@ -34,94 +33,62 @@ enum Numbers<'a> {
     Zero,
     One(Numeral<'a>),
     Two(Numeral<'a>, Numeral<'a>),
-    // More than two, or something else.
-    Other,
-}
-
-// What follows one space at the front of the text.
-fn after_space<'a>(text: &'a [u8]) -> Option<&'a [u8]>
-    ensures { MatchOption result (SpaceFirst text.now → ⊥) (λ rest. SpaceFirst text.now × (rest.now ≡ between 1 (length text.now) text.now)) }
-{
-    match text {
-        [b' ', rest @ ..] => Some(rest),
-        _ => None,
-    }
 }
 
 // A space and a number at the front of the text, and what follows the number.
-fn spaced_number<'a>(text: &'a [u8]) -> Option<(Numeral<'a>, &'a [u8])>
+fn spaced_number(text: &[u8]) -> Option<(Numeral<'_>, &[u8])>
     ensures { MatchOption result (NoNumber text.now) (λ p. SpacedNumber text.now p.0 p.1.now) }
 {
-    let Some(after) = after_space(text) else {
-        return None;
-    };
-    match next_token(after) {
+    match next_token(text.strip_prefix(b" ")?) {
         (Token::Number(number), rest) => Some((number, rest)),
         (Token::Word(_), _) => None,
     }
 }
 
-// The numbers of which the text consists, each after one space.
-fn numbers_of<'a>(text: &'a [u8]) -> Numbers<'a>
-    ensures { Follow text.now result }
+// The numbers of which the text consists, each after one space; none if there are more than two, or something else.
+fn numbers_of(text: &[u8]) -> Option<Numbers<'_>>
+    ensures { MatchOption result (NoNumbers 2 text.now) (Follow text.now) }
 {
     if text.is_empty() {
-        return Numbers::Zero;
+        return Some(Numbers::Zero);
     }
-    let Some((a, rest)) = spaced_number(text) else {
-        return Numbers::Other;
-    };
+    let (a, rest) = spaced_number(text)?;
     if rest.is_empty() {
-        return Numbers::One(a);
+        return Some(Numbers::One(a));
     }
-    let Some((b, end)) = spaced_number(rest) else {
-        return Numbers::Other;
-    };
+    let (b, end) = spaced_number(rest)?;
     if end.is_empty() {
-        Numbers::Two(a, b)
+        Some(Numbers::Two(a, b))
     } else {
-        Numbers::Other
+        None
     }
 }
 
 // The value of a number up to 65,535, or the digits of a larger one.
-fn small<'a>(number: Numeral<'a>) -> Result<u16, LineFault<'a>>
+fn small(number: Numeral<'_>) -> Result<u16, LineFault<'_>>
     ensures { result ≡ small_of number.entry }
 {
-    if number.value <= 65_535 {
-        Ok(number.value as u16)
-    } else {
-        Err(LineFault::TooLarge(number.digits))
-    }
+    number.value.ok_or(LineFault::TooLarge(number.digits))
 }
 
 // The call of a letter and its numbers.
-fn decide<'a>(letter: u8, numbers: Numbers<'a>) -> Result<Call, LineFault<'a>>
+fn decide(letter: u8, numbers: Numbers<'_>) -> Result<Call, LineFault<'_>>
     ensures { result ≡ decided letter numbers.entry }
 {
-    match numbers {
-        Numbers::Zero => match char::from(letter) {
-            'B' => Ok(Call::Build),
-            'N' => Ok(Call::Tally),
-            'P' => Ok(Call::Replan),
-            _ => Err(LineFault::NoForm),
-        },
-        Numbers::One(v) => match char::from(letter) {
-            'T' => Ok(Call::Name(small(v)?)),
-            'C' => Ok(Call::Close(small(v)?)),
-            'R' => Ok(Call::Reopen(small(v)?)),
-            _ => Err(LineFault::NoForm),
-        },
-        Numbers::Two(s, t) => match char::from(letter) {
-            'Q' => Ok(Call::Ask(small(s)?, small(t)?)),
-            _ => Err(LineFault::NoForm),
-        },
-        Numbers::Other => Err(LineFault::NoForm),
+    match (char::from(letter), numbers) {
+        ('B', Numbers::Zero) => Ok(Call::Build),
+        ('N', Numbers::Zero) => Ok(Call::Tally),
+        ('P', Numbers::Zero) => Ok(Call::Replan),
+        ('T', Numbers::One(v)) => Ok(Call::Name(small(v)?)),
+        ('C', Numbers::One(v)) => Ok(Call::Close(small(v)?)),
+        ('R', Numbers::One(v)) => Ok(Call::Reopen(small(v)?)),
+        ('Q', Numbers::Two(s, t)) => Ok(Call::Ask(small(s)?, small(t)?)),
+        _ => Err(LineFault::NoForm),
     }
 }
 
 // The call that a line spells with numbers up to 65,535, or why there is none.
-pub fn read_command<'a>(line: &'a [u8]) -> Result<Call, LineFault<'a>>
+pub fn read_command(line: &[u8]) -> Result<Call, LineFault<'_>>
     ensures outcome { Outcome line.now result }
     ensures exact { Exact line.now result }
     ensures within { Within line.now result }
@@ -130,10 +97,11 @@ pub fn read_command<'a>(line: &'a [u8]) -> Result<Call, LineFault<'a>>
     let Token::Word(word) = first else {
         return Err(LineFault::NoForm);
     };
-    if word.len() != 1 {
+    let [letter] = word else {
         return Err(LineFault::NoForm);
-    }
-    decide(word[0], numbers_of(rest))
+    };
+    let numbers = numbers_of(rest).ok_or(LineFault::NoForm)?;
+    decide(*letter, numbers)
 }
 
 // A line spells at most one call, with one list of numbers as written.

@@ -14,6 +14,6 @@ mod scan;
 mod tokens;
 
 pub use command::{LineFault, grammar_stands, read_command};
-pub use lines::{first_line, lines_stand};
-pub use opening::{KindWord, TextFault, kind_of, open_text};
+pub use lines::{Lines, first_line, lines_stand};
+pub use opening::{KindWord, LONGEST_TEXT, TextFault, kind_of, open_text};
 pub use tokens::{Numeral, Token, next_token};

@@ -19,20 +19,18 @@ pub enum KindWord {
 #[derive(Clone, Copy)]
 pub enum TextFault {
     // The text has more than 4,096 bytes.
-    TooLong,
+    TooLong = 55,
     // The first line is missing, or is neither word.
-    NoKind,
+    NoKind = 54,
 }
 
 impl TextFault {
+    // One cast for each kind of refusal: under a trait, or as `From`, each impl would write it again.
     // The number of the refusal.
     pub fn number(self) -> u8
         ensures { result ≡ fault_number self }
     {
-        match self {
-            TextFault::TooLong => 55,
-            TextFault::NoKind => 54,
-        }
+        self as u8
     }
 }
 
@@ -48,18 +46,14 @@ pub fn kind_of(line: &[u8]) -> Option<KindWord>
 }
 
 // The kind that the first line names, and the text after that line.
-pub fn open_text<'a>(text: &'a [u8]) -> Result<(KindWord, &'a [u8]), TextFault>
+pub fn open_text(text: &[u8]) -> Result<(KindWord, &[u8]), TextFault>
     ensures opened { MatchResult result (λ p. Begins text.now p.0 p.1.now) (λ e. Faulty text.now e) }
     ensures whole { IfOk result (λ p. CutAtEnd text.now (word p.0) p.1.now) }
 {
     if text.len() > LONGEST_TEXT {
         return Err(TextFault::TooLong);
     }
-    let Some((line, rest)) = first_line(text) else {
-        return Err(TextFault::NoKind);
-    };
-    match kind_of(line) {
-        Some(kind) => Ok((kind, rest)),
-        None => Err(TextFault::NoKind),
-    }
+    let (line, rest) = first_line(text).ok_or(TextFault::NoKind)?;
+    let kind = kind_of(line).ok_or(TextFault::NoKind)?;
+    Ok((kind, rest))
 }

@@ -7,9 +7,5 @@ pub fn length_before(text: &[u8], stop: u8) -> usize
     ensures count { result ≡ before stop text.now }
     ensures within { result ≤ length text.now }
 {
-    let mut n = 0;
-    while n < text.len() && text[n] != stop {
-        n += 1;
-    }
-    n
+    text.iter().position(|b| *b == stop).unwrap_or(text.len())
 }

@@ -67,7 +67,8 @@ impl Entry for Candidate {
     }
 }
 
-/// A transit node that is met over the legs: its length from the start, and its position in the list.
+/// A transit node that is met over the legs: its length from the start, and its position in the list. A record of its own, so that no
+/// position is taken for a slot.
 #[derive(Clone, Copy, PartialEq, Eq, Debug)]
 pub struct Node {
     pub length: u64,

@@ -1,17 +1,11 @@
 // Blocks: the two-cell block, the edges of the layout, and each refusal on both sides of its condition.
-use crate::tables::{check_counts, check_first, check_next, check_streets};
-use block::{least_block, open_block};
+use crate::tables::{
+    check_counts, check_first, check_kept, check_next, check_numbers, check_streets,
+};
+use block::{Block, least_block, open_block};
 use maps::Map;
 use samples::two_cells;
 use std::test::Fail;
-
-// The number with which the bytes are refused as a block, 0 if they are accepted.
-fn number_of(bytes: &[u8]) -> u8 {
-    match open_block(bytes, &mut least_block()) {
-        Ok(()) => 0,
-        Err(fault) => fault.number(),
-    }
-}
 
 #[test]
 fn two_cells_and_one_street(rt: HostRuntime) -> Result<(), Fail> {
@@ -113,9 +107,7 @@ fn numbers(rt: HostRuntime) {
         (b"\x47\x01\x01\x08", 8),
         (b"\x47\x01\x01\xf0", 0),
     ];
-    for (bytes, number) in cases {
-        assert_eq!(rt; number_of(bytes), number);
-    }
+    check_numbers::<Block>(&rt, &cases);
 }
 
 #[test]
@@ -124,11 +116,7 @@ fn a_refusal_leaves_the_place(rt: HostRuntime) -> Result<(), Fail> {
     let mut map = least_block();
     open_block(&file, &mut map)?;
     let refused: [&[u8]; 4] = [b"", b"\x47\0\x01", b"\x47\x01\x01\0\0", b"\x47\x01\x01\x01"];
-    for bytes in refused {
-        assert!(rt; open_block(bytes, &mut map).is_err());
-        check_counts(&rt, &map, 2, 8);
-        check_streets(&rt, &map, &[(2, 1, 2, 4)]);
-    }
+    check_kept(&rt, &mut map, &refused, (2, 8), (2, 1, 2, 4));
     open_block(b"\x47\x01\x01\0", &mut map)?;
     check_counts(&rt, &map, 1, 4);
     Ok(())

@@ -1,16 +1,10 @@
 // Sheets: the four-junction sheet, the edges of the layout, and each refusal on both sides of its condition.
-use crate::tables::{check_counts, check_first, check_next, check_streets};
+use crate::tables::{
+    check_counts, check_first, check_kept, check_next, check_numbers, check_streets, number_of,
+};
 use samples::four_junctions;
-use sheet::{least_sheet, open_sheet};
+use sheet::{Sheet, least_sheet, open_sheet};
 use std::test::Fail;
-
-// The number with which the bytes are refused as a sheet, 0 if they are accepted.
-fn number_of(bytes: &[u8]) -> u8 {
-    match open_sheet(bytes, &mut least_sheet()) {
-        Ok(()) => 0,
-        Err(fault) => fault.number(),
-    }
-}
 
 #[test]
 fn four_junctions_and_five_streets(rt: HostRuntime) -> Result<(), Fail> {
@@ -110,9 +104,7 @@ fn numbers(rt: HostRuntime) {
         (b"\x53\x01\x01\0\0\0\0\0\0\0\0\0\0\0\0\0\0\0", 0),
         (b"\x53\x01\x01\0\0\0\0\0\0\0\0\0\0\0\0\0\0\x01", 5),
     ];
-    for (bytes, number) in cases {
-        assert_eq!(rt; number_of(bytes), number);
-    }
+    check_numbers::<Sheet>(&rt, &cases);
 }
 
 // The four-junction sheet with two bytes set. The record of slot e begins at 10 + 10 e, and that of junction v at 4 v.
@@ -137,11 +129,10 @@ fn numbers_of_records_and_links(rt: HostRuntime) {
     ];
     for ((a, x), (b, y), number) in cases {
         let mut file = four_junctions();
-        if a < 70 && b < 70 {
-            file[a] = x;
-            file[b] = y;
-        }
-        assert_eq!(rt; number_of(&file), number);
+        assert!(rt; a < file.len() && b < file.len());
+        file[a] = x;
+        file[b] = y;
+        assert_eq!(rt; number_of::<Sheet>(&file), number);
     }
 }
 
@@ -156,11 +147,7 @@ fn a_refusal_leaves_the_place(rt: HostRuntime) -> Result<(), Fail> {
         b"\x53\x01\0\0\0\0\0\0\0",
         b"\x53\x01\0\0\x01\0\0\0",
     ];
-    for bytes in refused {
-        assert!(rt; open_sheet(bytes, &mut map).is_err());
-        check_counts(&rt, &map, 4, 5);
-        check_streets(&rt, &map, &[(2, 2, 4, 4)]);
-    }
+    check_kept(&rt, &mut map, &refused, (4, 5), (2, 2, 4, 4));
     open_sheet(b"\x53\x01\0\0\0\0\0\0", &mut map)?;
     check_counts(&rt, &map, 1, 0);
     Ok(())

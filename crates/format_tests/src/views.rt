@@ -46,39 +46,44 @@ fn equal_streets_across_formats(rt: HostRuntime) -> Result<(), Fail> {
     Ok(())
 }
 
-// Writes a number of two bytes, the low byte first.
-fn put_two(bytes: &mut [u8], at: u16, value: u16) {
-    let at = at as usize;
-    if at + 1 < bytes.len() {
-        bytes[at] = (value % 256) as u8;
-        bytes[at + 1] = (value / 256) as u8;
+// A sheet with 128 junctions and 512 slots: slots 4v - 3 to 4v leave junction v, and every 128th slot enters the same junction.
+fn largest_file() -> [u8; 5636] {
+    let mut file = [0; 5636];
+    let (counts, records) = file.split_at_mut(4);
+    counts.copy_from_slice(b"\x53\x80\0\x02");
+    let (junctions, slots) = records.split_at_mut(512);
+    for (i, record) in junctions.as_chunks_mut().0.iter_mut().enumerate() {
+        let v = i as u16 + 1;
+        let leaving = (4 * v - 3).to_le_bytes();
+        let entering = v.to_le_bytes();
+        *record = [leaving[0], leaving[1], entering[0], entering[1]];
     }
-}
-
-// Fills zero bytes as a sheet with 128 junctions and 512 slots: slots 4v - 3 to 4v leave junction v, and every 128th slot enters
-// the same junction.
-fn fill_largest(bytes: &mut [u8]) {
-    put_two(bytes, 0, 0x8053);
-    put_two(bytes, 2, 512);
-    for v in 1..129u16 {
-        put_two(bytes, 4 * v, 4 * v - 3);
-        put_two(bytes, 4 * v + 2, v);
+    for (i, record) in slots.as_chunks_mut().0.iter_mut().enumerate() {
+        let e = i as u16 + 1;
+        let tail = (i / 4 + 1) as u8;
+        let head = (i % 128 + 1) as u8;
+        let length = e.to_le_bytes();
+        let leaving = if e % 4 == 0 { 0 } else { e + 1 }.to_le_bytes();
+        let entering = if e > 384 { 0 } else { e + 128 }.to_le_bytes();
+        *record = [
+            tail,
+            head,
+            length[0],
+            length[1],
+            0,
+            0,
+            leaving[0],
+            leaving[1],
+            entering[0],
+            entering[1],
+        ];
     }
-    for e in 1..513u16 {
-        let at = 506 + 10 * e;
-        let tail = (e - 1) / 4 + 1;
-        let head = (e - 1) % 128 + 1;
-        put_two(bytes, at, tail + 256 * head);
-        put_two(bytes, at + 2, e);
-        put_two(bytes, at + 6, if e % 4 == 0 { 0 } else { e + 1 });
-        put_two(bytes, at + 8, if e > 384 { 0 } else { e + 128 });
-    }
+    file
 }
 
 #[test]
 fn largest_sheet(rt: HostRuntime) -> Result<(), Fail> {
-    let mut file = [0u8; 5636];
-    fill_largest(&mut file);
+    let file = largest_file();
     let mut map = least_sheet();
     open_sheet(&file, &mut map)?;
     check_counts(&rt, &map, 128, 512);

@@ -1,3 +1,4 @@
+pub mod Finds
 pub mod Lowests
 pub mod Scans
 pub mod Verdicts

@@ -1,6 +1,7 @@
 // The tests, and the solver that they compare with.
 use legs::{LegTable, search};
 use lengths::{Gates, Length, Paces, Zeroed, zero_of};
+use std::array;
 use std::process::Abort;
 
 // From, to and length. Node 0 is the start, 1 to 16 are list positions, 31 is the goal.
@@ -8,37 +9,32 @@ type Leg = (u16, u16, u64);
 
 // Sets the leg from one node to another.
 fn set(table: &mut LegTable, from: u16, to: u16, length: Option<u64>) {
-    if from == 0 && to == 31 {
-        table.set_direct(length);
-    } else if from == 0 {
-        table.set_access(to, length);
-    } else if to == 31 {
-        table.set_egress(from, length);
-    } else {
-        table.set_between(from, to, length);
+    match (from, to) {
+        (0, 31) => table.set_direct(length),
+        (0, _) => table.set_access(to, length),
+        (_, 31) => table.set_egress(from, length),
+        _ => table.set_between(from, to, length),
     }
 }
 
 // The table for `count` list positions that holds the legs.
 fn table_of(count: u16, legs: &[Leg]) -> LegTable {
     let mut table = LegTable::new(count);
-    for leg in legs {
-        set(&mut table, leg.0, leg.1, Some(leg.2));
+    for &(from, to, length) in legs {
+        set(&mut table, from, to, Some(length));
     }
     table
 }
 
 // Takes a leg, where it leads to a better length.
-fn relax<K: Length>(best: &mut [Option<u64>; 32], leg: &Leg) {
-    let from = leg.0 as usize;
-    let to = leg.1 as usize;
-    if from < 32 && to < 32 {
-        if let Some(walked) = best[from] {
-            let length = K::join(walked, leg.2);
-            match best[to] {
-                Some(known) if K::no_worse(known, length) => {}
-                _ => best[to] = Some(length),
-            }
+fn relax<K: Length>(best: &mut [Option<u64>; 32], (from, to, leg): Leg) {
+    let Some(&Some(walked)) = best.get(usize::from(from)) else {
+        return;
+    };
+    if let Some(known) = best.get_mut(usize::from(to)) {
+        let length = K::join(walked, leg);
+        if !known.is_some_and(|known| K::no_worse(known, length)) {
+            *known = Some(length);
         }
     }
 }
@@ -48,7 +44,7 @@ fn relaxed<K: Zeroed>(legs: &[Leg]) -> [Option<u64>; 32] {
     let mut best = [None; 32];
     best[0] = Some(zero_of::<K>());
     for _ in 0..18 {
-        for leg in legs {
+        for &leg in legs {
             relax::<K>(&mut best, leg);
         }
     }
@@ -62,8 +58,8 @@ fn agree<K: Zeroed>(rt: &impl Abort, count: u16, legs: &[Leg]) {
     let found = search::<K>(&table_of(count, legs));
     let best = relaxed::<K>(legs);
     assert_eq!(rt; found.goal(), best[31]);
-    for i in 1..17u16 {
-        assert_eq!(rt; found.position(i), best[i as usize]);
+    for (i, &length) in (1..=16).zip(&best[1..]) {
+        assert_eq!(rt; found.position(i), length);
     }
     for i in [0, 17, 30, 31, 32, 65_535] {
         assert_eq!(rt; found.position(i), None);
@@ -148,11 +144,11 @@ fn at_the_top(rt: HostRuntime) {
 
 // From the start through every position to the goal, and the direct length.
 fn chain() -> [Leg; 18] {
-    let mut legs = [(0, 31, 400); 18];
-    for i in 0..17u16 {
-        legs[i as usize] = (i, if i == 16 { 31 } else { i + 1 }, 20);
-    }
-    legs
+    array::from_fn(|i| match i as u16 {
+        17 => (0, 31, 400),
+        16 => (16, 31, 20),
+        from => (from, from + 1, 20),
+    })
 }
 
 #[test]
@@ -179,18 +175,12 @@ fn mixed(from: u16, to: u16, seed: u16) -> Leg {
 }
 
 fn dense(seed: u16) -> [Leg; 289] {
-    let mut legs = [(0, 0, 0); 289];
-    for from in 0..17u16 {
-        for to in 0..17u16 {
-            legs[(from * 17 + to) as usize] = mixed(from, to, seed);
-        }
-    }
-    legs
+    array::from_fn(|i| mixed((i / 17) as u16, (i % 17) as u16, seed))
 }
 
 #[test]
 fn many_legs(rt: HostRuntime) {
-    for seed in 0..6u16 {
+    for seed in 0..6 {
         agree::<Paces>(&rt, 16, &dense(seed));
         agree::<Gates>(&rt, 16, &dense(seed));
     }

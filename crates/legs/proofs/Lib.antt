@@ -1,3 +1,3 @@
 pub mod Cells
 pub mod Spreads
-pub mod Searching
+pub mod Turns

@@ -1,17 +1,21 @@
 -- Which nodes the legs of one node add to those that wait, and how many.
-use Rattle.std.proofs.Common.{◌≡◌, ℕ, zero, suc, ◌+◌, ◌<◌, ◌≤◌, eqb, ◌⊎◌, List, length, Some, None, Option, sym, refl, ap, ◌∙◌, inl, inr, ⊎_elim, add-one, arith}
+use Rattle.std.proofs.Common.{◌≡◌, ℕ, zero, suc, ◌+◌, ◌<◌, ◌≤◌, eqb, ◌⊎◌, List, length, Some, None, Option, sym, refl, ap, ◌∙◌, inl, inr, ⊎_elim, arith}
 use Rattle.std.proofs.lemmas.Bool.{cases_eq, cases_lt}
 use Rattle.std.proofs.lemmas.Map.{update_here, update_apart}
-use Rattle.std.proofs.lemmas.List.Sorted.{IsPermutation-cons, IsPermutation-trans, length_permutation}
+use Rattle.std.proofs.lemmas.List.Sorted.{IsPermutation-refl, IsPermutation-cons, IsPermutation-trans, length_permutation}
 use Rattle.std.specs.Map.{update}
 use Rattle.std.specs.List.{ContainsAt}
 use Rattle.std.specs.List.Sorted.{IsPermutation}
 use Rattle.lengths.specs.Kinds.{Kind}
+use Rattle.queue.specs.Queues.{held, room, Ordered}
 use Rattle.entries.specs.declared.Node.{Node}
-use Rattle.entries.specs.Records.{node}
+use Rattle.entries.specs.Records.{node, NodeAhead}
 use Rattle.walks.specs.Legs.{Target}
 use Rattle.walks.proofs.Lists.{has_first, has_next, has_cases}
 use Rattle.walks.proofs.Facts.{none≢some}
+use Rattle.legs.specs.declared.searching.Search.{Search}
+use Rattle.legs.specs.Turns.{legs_out, GoesOn, Puts}
+use Rattle.legs.specs.Tables.{leg_of, length_at}
 use Rattle.legs.specs.Searches.{Lengths, unless_reached, open_legs, adding, adding_positions, adding_all, blank, unreached, pairs}
 
 -- ---- how many nodes are not reached, and how many pairs they have
@@ -139,9 +143,9 @@ module _ (K : Kind) (d : ℕ → Option ℕ) (l : ℕ) where
     unfolding adding_positions
     positions_none = refl
 
-    pub positions_more : (j : ℕ) (ts us : List Node) → IsPermutation (adding_positions K d l j hs) ts → IsPermutation (adding K l (j + 1) (d (j + 1)) ts) us → IsPermutation (adding_positions K d l (j + 1) hs) us
+    pub positions_more : (j : ℕ) (ts us : List Node) → IsPermutation (adding_positions K d l j hs) ts → IsPermutation (adding K l (suc j) (d (suc j)) ts) us → IsPermutation (adding_positions K d l (suc j) hs) us
     unfolding adding_positions
-    positions_more j ts us s t = rw (add-one j) (IsPermutation-trans _ _ _ (adding_shuffled (suc j) (d (suc j)) _ _ s) (rw (add-one j) at t))
+    positions_more j ts us s t = IsPermutation-trans _ _ _ (adding_shuffled (suc j) (d (suc j)) _ _ s) t
 
     pub goal_more : (k : ℕ) (ts us : List Node) → IsPermutation (adding_positions K d l k hs) ts → IsPermutation (adding K l 31 (d 31) ts) us → IsPermutation (adding_all K d l k hs) us
     goal_more k ts us s t = IsPermutation-trans _ _ _ (adding_shuffled 31 (d 31) _ _ s) t
@@ -169,11 +173,11 @@ module _ (K : Kind) (L : Lengths) (d : ℕ → Option ℕ) (l : ℕ) (hs : List 
       omega arith
 
   -- so there is room for the next
-  pub position_room : (k j room : ℕ) (ts : List Node) → j < k → length hs + unreached L k ≤ room → IsPermutation (adding_positions K (open_legs L d) l j hs) ts → L (j + 1) ≡ None → length ts < room
+  pub position_room : (k j room : ℕ) (ts : List Node) → j < k → length hs + unreached L k ≤ room → IsPermutation (adding_positions K (open_legs L d) l j hs) ts → L (suc j) ≡ None → length ts < room
   position_room k j room ts lt h s n =
       let e = length_permutation _ _ s in
       let f = positions_few j in
-      let u = unreached_next L j (rw (add-one j) at n) in
+      let u = unreached_next L j n in
       let m = unreached_mono L (suc j) k lt in
       omega arith
 
@@ -183,3 +187,56 @@ module _ (K : Kind) (L : Lengths) (d : ℕ → Option ℕ) (l : ℕ) (hs : List 
       let f = positions_few k in
       let b : blank (L 31) ≡ 1 = rw n in
       omega arith
+
+-- ---- a search puts the legs of one node
+pub goes_on_same : (K : Kind) (s : Search) → Ordered (NodeAhead K) s.queue → GoesOn K s s
+goes_on_same K s o = record { legs = refl; ordered = o; room = refl; lender = refl }
+
+goes_on_trans : (K : Kind) (s t u : Search) → GoesOn K s t → GoesOn K t u → GoesOn K s u
+goes_on_trans K s t u p q = record { legs = q.legs ∙ p.legs; ordered = q.ordered; room = q.room ∙ p.room; lender = q.lender ∙ p.lender }
+
+-- t is s after the legs from i, whose length is l, to positions 1 to n are put
+pub record PositionsPut (K : Kind) (s : Search) (i l n : ℕ) (t : Search) : Type 0 where
+  pub puts : Puts K (adding_positions K (legs_out s i) l n (held s.queue)) s t
+
+pub put_none : (K : Kind) (s : Search) (i l : ℕ) → Ordered (NodeAhead K) s.queue → PositionsPut K s i l 0 s
+put_none K s i l o = record {
+  puts = record {
+    goes_on = goes_on_same K s o;
+    reached = refl;
+    held = rw (positions_none K (legs_out s i) l (held s.queue)) (IsPermutation-refl (held s.queue));
+  };
+}
+
+module _ {K : Kind} {s t : Search} {i l n : ℕ} (p : PositionsPut K s i l n t) where
+  pub put_end : (k : ℕ) (u : Search) → n ≡ k → u ≡ t → PositionsPut K s i l k u
+  put_end k u e f = rw (f, ← e) p
+
+  -- there is room for the next
+  module _ (k : ℕ) (fits : length (held s.queue) + unreached (length_at s.reached) k ≤ room s.queue) where
+    pub room_more : (m : ℕ) → m ≡ suc n → n < k → length_at t.reached m ≡ None → length (held t.queue) < room t.queue
+    room_more m e lt f =
+        position_room K (length_at s.reached) (leg_of s.legs.now i) l (held s.queue) k n (room t.queue) (held t.queue) lt (rw p.puts.goes_on.room fits) p.puts.held (rw (e, p.puts.reached) at f)
+
+    pub room_goal : n ≡ k → length_at t.reached 31 ≡ None → length (held t.queue) < room t.queue
+    room_goal e f =
+        goal_room K (length_at s.reached) (leg_of s.legs.now i) l (held s.queue) n (room t.queue) (held t.queue) (rw (e, p.puts.goes_on.room) fits) p.puts.held (rw p.puts.reached at f)
+
+  same : (j : ℕ) → legs_out t i j ≡ legs_out s i j
+  same j = rw (p.puts.goes_on.legs, p.puts.reached)
+
+  pub put_more : {u : Search} (m : ℕ) → m ≡ suc n → Puts K (adding K l m (legs_out t i m) (held t.queue)) t u → PositionsPut K s i l m u
+  put_more {u} m e q = record {
+    puts = record {
+      goes_on = goes_on_trans K s t u p.puts.goes_on q.goes_on;
+      reached = q.reached ∙ p.puts.reached;
+      held = rw e (positions_more K (legs_out s i) l (held s.queue) n _ _ p.puts.held (rw (e, same (suc n)) at q.held));
+    };
+  }
+
+  pub put_goal : {u : Search} → Puts K (adding K l 31 (legs_out t i 31) (held t.queue)) t u → Puts K (adding_all K (legs_out s i) l n (held s.queue)) s u
+  put_goal {u} q = record {
+    goes_on = goes_on_trans K s t u p.puts.goes_on q.goes_on;
+    reached = q.reached ∙ p.puts.reached;
+    held = goal_more K (legs_out s i) l (held s.queue) n _ _ p.puts.held (rw (same 31) at q.held);
+  }

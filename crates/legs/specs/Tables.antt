@@ -1,5 +1,5 @@
 -- What a table of legs and the best lengths over it mean: node 0 is the start, nodes 1 to 16 are list positions, node 31 is the goal.
-use Rattle.std.specs.Prelude.{ℕ, ◌+◌, ◌*◌, Bool, false, cond, not, ◌&&◌, List, Some, None, Option, ◌==◌, nat_le, slice_index, slice_index_or}
+use Rattle.std.specs.Prelude.{ℕ, ◌+◌, ◌*◌, Bool, cond, not, ◌&&◌, List, None, Option, ◌==◌, nat_le, slice_index_or}
 use Rattle.walks.specs.Legs.{Legs, leg_between}
 use Rattle.legs.specs.declared.Reached.{Reached}
 use Rattle.legs.specs.declared.table.LegTable.{LegTable}
@@ -20,17 +20,13 @@ are_positions k i j = is_position k i && is_position k j && not (i == j)
 abbrev pub cell_of : ℕ → ℕ → ℕ
 cell_of i j = i * 17 + cond (j == 31) 0 j
 
--- what a cell holds, by the marks of the cells that are filled and the lengths in them
-abbrev pub cell_length : List Bool → List ℕ → ℕ → Option ℕ
-cell_length ps xs c = cond (slice_index_or ps c false) (Some (slice_index xs c)) None
-
 -- the legs in the cells, between k list positions
-abbrev pub legs_in : ℕ → List Bool → List ℕ → Legs
-legs_in k ps xs i j = cond (leg_between k i j) (cell_length ps xs (cell_of i j)) None
+abbrev pub legs_in : ℕ → List (Option ℕ) → Legs
+legs_in k cells i j = cond (leg_between k i j) (slice_index_or cells (cell_of i j) None) None
 
 -- the legs that a table holds: none into the start, out of the goal, from a node to itself, or at a position past its count
 unfoldable pub leg_of : LegTable → Legs
-leg_of t = legs_in t.count t.present t.lengths
+leg_of t = legs_in t.count t.cells
 
 -- no legs
 abbrev pub no_legs : Legs

@@ -6,7 +6,7 @@
 // Nothing is said of numbers that are no codes.
 #![tactic(auto)]
 
-ghost use Rattle.std.specs.Prelude.{◌≡◌, ℕ};
+ghost use Rattle.std.specs.Prelude.{◌≡◌, ℕ, ◌-◌, ◌^◌, refl};
 ghost use Rattle.lengths.specs.Kinds.{Kind, LawfulKind, paces, gates};
 ghost use Rattle.lengths.specs.Laws.{KindsLawful};
 ghost use Rattle.std.proofs.Common.{rules};
@@ -26,41 +26,17 @@ pub trait Length {
     ghost lawful: { LawfulKind kind };
 }
 
-/// A constant whose type tells its code.
-pub trait Coded: Copy {
-    ghost code: { Self → ℕ };
-
-    /// The code.
-    fn code(self) -> u64
-        ensures { result ≡ code self };
-}
-
-/// A kind of length with its zero as a constant, `ZERO`, whose code is the kind's zero.
+/// A kind of length with its zero as a constant.
 pub trait Zeroed: Length {
-    type Zero: Coded;
+    ghost ZERO: { ℕ };
 
-    const ZERO: Self::Zero;
+    const ZERO: u64;
 
-    ghost fixed: { (z : Self.Zero) → Self.Zero.Coded.code z ≡ Self.Length.kind.zero };
-}
-
-/// A number that is known to be `CODE`.
-#[derive(Clone, Copy)]
-pub struct Constant<const CODE: u64> {
-    value: u64,
-    ghost known: { value ≡ CODE },
-}
-
-impl<const CODE: u64> Coded for Constant<CODE> {
-    ghost code = { λ c. c.value };
-
-    fn code(self) -> u64 {
-        self.value
-    }
+    ghost fixed: { ZERO ≡ Self.Length.kind.zero };
 }
 
 /// Paces add up, to 2^64 - 1 at most; fewer are better.
-#[derive(Clone, Copy)]
+#[derive(Clone, Copy, PartialEq, Eq, Debug, Default)]
 pub struct Paces;
 
 impl Length for Paces {
@@ -78,15 +54,15 @@ impl Length for Paces {
 }
 
 impl Zeroed for Paces {
-    type Zero = Constant<0>;
+    ghost ZERO = { 0 };
 
-    const ZERO: Constant<0> = Constant { value: 0 };
+    const ZERO: u64 = 0;
 
-    ghost fixed = { Prim.search rules };
+    ghost fixed = { refl };
 }
 
 /// A way is as wide as its narrowest gate; wider is better.
-#[derive(Clone, Copy)]
+#[derive(Clone, Copy, PartialEq, Eq, Debug, Default)]
 pub struct Gates;
 
 impl Length for Gates {
@@ -104,18 +80,18 @@ impl Length for Gates {
 }
 
 impl Zeroed for Gates {
-    type Zero = Constant<{ u64::MAX }>;
+    ghost ZERO = { 2 ^ 64 - 1 };
 
-    const ZERO: Constant<{ u64::MAX }> = Constant { value: u64::MAX };
+    const ZERO: u64 = u64::MAX;
 
-    ghost fixed = { Prim.search rules };
+    ghost fixed = { refl };
 }
 
 /// The zero of a kind.
 pub fn zero_of<K: Zeroed>() -> u64
     ensures { result ≡ K.Length.kind.zero }
 {
-    K::ZERO.code()
+    K::ZERO
 }
 
 /// Says that paces and gates keep the laws.
@@ -132,18 +108,18 @@ mod tests {
 
     // Each row holds two codes and their join; the order of the two makes no difference.
     fn joins<K: Length>(rt: &impl Abort, rows: &[(u64, u64, u64)]) {
-        for row in rows {
-            assert_eq!(rt; K::join(row.0, row.1), row.2);
-            assert_eq!(rt; K::join(row.1, row.0), row.2);
+        for &(a, b, joined) in rows {
+            assert_eq!(rt; K::join(a, b), joined);
+            assert_eq!(rt; K::join(b, a), joined);
         }
     }
 
     // Each row holds a code and one that is worse.
     fn falls<K: Length>(rt: &impl Abort, rows: &[(u64, u64)]) {
-        for row in rows {
-            assert!(rt; K::no_worse(row.0, row.0));
-            assert!(rt; K::no_worse(row.0, row.1));
-            assert!(rt; !K::no_worse(row.1, row.0));
+        for &(better, worse) in rows {
+            assert!(rt; K::no_worse(better, better));
+            assert!(rt; K::no_worse(better, worse));
+            assert!(rt; !K::no_worse(worse, better));
         }
     }
 

@@ -1,5 +1,5 @@
 -- A life over lines that is lived line by line: the calls among the first lines are answered, and lead to the moment now.
-use Rattle.std.proofs.Common.{◌≡◌, ℕ, zero, suc, ◌+◌, ◌<◌, ◌≤◌, min, ◌≢◌, ◌⊎◌, List, [], ◌∷◌, ◌++◌, length, get_or, take, drop, set, Some, None, Option, sym, refl, ap, ◌∙◌, subst, inl, inr, ⊎_elim, append-nil, add-one, arith, length-take, length-take-le}
+use Rattle.std.proofs.Common.{◌≡◌, ℕ, zero, suc, ◌+◌, ◌<◌, ◌≤◌, min, ◌≢◌, List, [], ◌∷◌, ◌++◌, length, get_or, take, drop, set, Some, None, Option, sym, refl, ap, ◌∙◌, subst, append-nil, arith, length-take, length-take-le}
 use Rattle.std.specs.List.{slice_get}
 use Rattle.std.proofs.lemmas.List.{take_more, take_more_set, length-set}
 use Rattle.maps.specs.Graph.{Graph}
@@ -11,12 +11,7 @@ use Rattle.calls.specs.declared.Call.{Call}
 use Rattle.calls.specs.declared.Answer.{Answer}
 use Rattle.calls.specs.declared.Answer.TheVariants.{Done}
 use Rattle.calls.proofs.Lived.{after_push, life_push}
-use Rattle.lives.specs.Lines.{common_front, with_call, calls_among, with_answer, answers_among, call_at, OthersKept}
-
--- what is no call is none
-pub no_call : (o : Option Call) → ((c : Call) → o ≡ Some c → ⊥) → o ≡ None
-no_call None h = refl
-no_call (Some c) h = absurd (h c refl)
+use Rattle.lives.specs.Lines.{common_front, with_call, calls_among, with_answer, answers_among, call_at, OthersKept, LivedLines}
 
 -- ---- one line more
 with_call_append : (o : Option Call) (cs ds : List Call) → with_call o (cs ++ ds) ≡ with_call o cs ++ ds
@@ -58,7 +53,7 @@ call_here f xs i x c h e p = call_read f xs i x h ∙ ap f (sym e) ∙ p
 -- a write to the place of a call
 pub kept_set : {L : Type 0} (f : L → Option Call) (lines : List L) (out : List Answer) (i : ℕ) (c : Call) (a : Answer) → call_at f lines i ≡ Some c → OthersKept f lines out (set out i a)
 kept_set f lines out i c a e =
-    λ j none. nth_set_other out i j a (λ same. let u : call_at f lines i ≡ None = subst (λ (k : ℕ). call_at f lines k ≡ None) same none in let w : ◌≡◌ {A = ℕ} 0 1 = cc in omega arith)
+    λ j none. nth_set_other out i j a (λ same. let u : call_at f lines i ≡ None = subst (λ (k : ℕ). call_at f lines k ≡ None) same none in cc)
 
 pub call_past : {L : Type 0} (f : L → Option Call) (xs : List L) (i : ℕ) → length xs ≤ i → call_at f xs i ≡ None
 call_past f [] i h = refl
@@ -77,27 +72,29 @@ drop_same (x ∷ xs) (y ∷ ys) zero e h =
 drop_same (x ∷ xs) (y ∷ ys) (suc n) e h = drop_same xs ys n (omega arith) (λ j l. h (suc j) (omega arith))
 
 -- ---- the first i lines
--- the calls among the lines below i have their answers in out, and lead to the moment m; the other places are as before
-pub record LivedLines {L : Type 0} (f : L → Option Call) (K : Kind) (G : Graph) (lines : List L) (before out : List Answer) (i : ℕ) (m : Moment) : Type 0 where
-  pub within : i ≤ length lines
-  pub room : i ≤ length out
-  pub places : length out ≡ length before
-  pub so_far : Life K G created (calls_among f (take i lines)) (answers_among f (take i lines) (take i out))
-  pub at : m ≡ after_all G created (calls_among f (take i lines))
-  pub kept : OthersKept f lines before out
-
 pub lived_none : {L : Type 0} (f : L → Option Call) (K : Kind) (G : Graph) (lines : List L) (out : List Answer) → LivedLines f K G lines out out 0 created
 lived_none f K G lines out = record { within = omega arith; room = omega arith; places = refl; so_far = tt; at = refl; kept = λ j h. refl }
 
-module _ {L : Type 0} (f : L → Option Call) (K : Kind) (G H : Graph) (lines : List L) (before out : List Answer) (i : ℕ) (m : Moment) where
+module _ {L : Type 0} (f : L → Option Call) (K : Kind) (G : Graph) (lines : List L) (before out : List Answer) (i : ℕ) (m : Moment) where
   -- line i stands after the lines before it
   line_next : (x : L) → i < length lines → x ≡ get_or lines i x → take (i + 1) lines ≡ take i lines ++ x ∷ []
   line_next x h e = take_more lines i x h ∙ ap (λ (y : L). take i lines ++ y ∷ []) (sym e)
 
   -- line i is the call c, which answers a in its place and leads to n; the map may be another one that means the same
-  pub lived_call : (n : Moment) (x : L) (c : Call) (a : Answer) → H ≡ G → LivedLines f K G lines before out i m → i < length lines → i < length out
-      → x ≡ get_or lines i x → f x ≡ Some c → Gives K G m c a → n ≡ after G m c → LivedLines f K H lines before (set out i a) (i + 1) n
-  lived_call n x c a z l hl ho e p h q = subst (λ (y : Graph). LivedLines f K y lines before (set out i a) (i + 1) n) (sym z) here
+  pub lived_call : (H : Graph) (n : Moment) (x : L) (c : Call) (a : Answer) → H ≡ G → LivedLines f K G lines before out i m → i < length lines → i < length out
+      → x ≡ get_or lines i x → f x ≡ Some c → Gives K H m c a → n ≡ after H m c → LivedLines f K G lines before (set out i a) (i + 1) n
+  lived_call H n x c a z l hl ho e p h q =
+      let len = length-set out i a in
+      record {
+        within = omega arith;
+        room = omega arith;
+        places = len ∙ l.places;
+        so_far = subst (λ (y : List Call). Life K G created y (answers_among f (take (i + 1) lines) (take (i + 1) (set out i a)))) (sym calls_are)
+            (subst (Life K G created (calls_among f (take i lines) ++ c ∷ [])) (sym answers_are)
+            (life_push K G created (calls_among f (take i lines)) (answers_among f (take i lines) (take i out)) c a l.so_far (subst (λ (y : Moment). Gives K G y c a) l.at (rw z at h))));
+        at = q ∙ ap (λ (y : Graph). after y m c) z ∙ ap (λ (y : Moment). after G y c) l.at ∙ sym (after_push G created (calls_among f (take i lines)) c) ∙ ap (after_all G created) (sym calls_are);
+        kept = λ j none. kept_set f lines out i c a (call_here f lines i x c hl e p) j none ∙ l.kept j none;
+      }
     where
       calls_are : calls_among f (take (i + 1) lines) ≡ calls_among f (take i lines) ++ c ∷ []
       calls_are =
@@ -109,20 +106,6 @@ module _ {L : Type 0} (f : L → Option Call) (K : Kind) (G H : Graph) (lines : 
           ∙ ap (answers_among f (take i lines ++ x ∷ [])) (take_more_set out i a ho)
           ∙ answers_push f (take i lines) (take i out) x a (length-take-le i lines l.within ∙ sym (length-take-le i out l.room))
           ∙ ap (λ (o : Option Call). answers_among f (take i lines) (take i out) ++ with_answer o a []) p
-
-      here : LivedLines f K G lines before (set out i a) (i + 1) n
-      here =
-          let len = length-set out i a in
-          record {
-            within = omega arith;
-            room = omega arith;
-            places = len ∙ l.places;
-            so_far = subst (λ (y : List Call). Life K G created y (answers_among f (take (i + 1) lines) (take (i + 1) (set out i a)))) (sym calls_are)
-                (subst (Life K G created (calls_among f (take i lines) ++ c ∷ [])) (sym answers_are)
-                (life_push K G created (calls_among f (take i lines)) (answers_among f (take i lines) (take i out)) c a l.so_far (subst (λ (y : Moment). Gives K G y c a) l.at h)));
-            at = q ∙ ap (λ (y : Moment). after G y c) l.at ∙ sym (after_push G created (calls_among f (take i lines)) c) ∙ ap (after_all G created) (sym calls_are);
-            kept = λ j none. kept_set f lines out i c a (call_here f lines i x c hl e p) j none ∙ l.kept j none;
-          }
 
   -- line i is no call
   pub lived_other : (x : L) → LivedLines f K G lines before out i m → i < length lines → i < length out → x ≡ get_or lines i x → f x ≡ None
@@ -153,23 +136,19 @@ module _ {L : Type 0} (f : L → Option Call) (K : Kind) (G H : Graph) (lines : 
           ∙ ap (λ (o : Option Call). answers_among f (take i lines) (take i out) ++ with_answer o (get_or out i Done) []) p
           ∙ append-nil (answers_among f (take i lines) (take i out))
 
+module _ {L : Type 0} (f : L → Option Call) (K : Kind) (G : Graph) (lines : List L) (before : List Answer) where
+  -- what one state has lived and the call that ends it, which leads to n; each state is over a map that means the same
+  pub lived_state : (H N : Graph) (out now : List Answer) (i j : ℕ) (m at n : Moment) (c : Call) → H ≡ G → N ≡ G
+      → (LivedLines f K H lines before out i m → LivedLines f K H lines before now j (after H at c))
+      → LivedLines f K G lines before out i m → n ≡ after N at c → LivedLines f K G lines before now j n
+  lived_state H N out now i j m at n c h k on l q =
+      let t : LivedLines f K G lines before now j (after G at c) = rw h at (on (rw h l)) in
+      subst (LivedLines f K G lines before now j) (ap (λ (y : Graph). after y at c) (sym k) ∙ sym q) t
+
   -- at the end of the shorter list the common front is lived
-  pub lived_front : H ≡ G → LivedLines f K G lines before out i m → (length lines ≤ i) ⊎ (length out ≤ i)
-      → Life K H created (calls_among f (common_front lines before lines)) (answers_among f (common_front lines before lines) (common_front lines before out))
-  lived_front z l h =
-      let q : i ≡ min (length lines) (length before) = ⊎_elim (λ x. omega (arith, l.within, l.room, l.places)) (λ x. omega (arith, l.within, l.room, l.places)) h in
-      subst (λ (y : Graph). Life K y created (calls_among f (common_front lines before lines)) (answers_among f (common_front lines before lines) (common_front lines before out))) (sym z)
-      (subst (λ (j : ℕ). Life K G created (calls_among f (take j lines)) (answers_among f (take j lines) (take j out))) q l.so_far)
-
--- the places may be compared with those of any moment, and through those in between
-pub lived_from : {L : Type 0} (f : L → Option Call) (K : Kind) (G : Graph) (lines : List L) (before out : List Answer) (i : ℕ) (m : Moment)
-    → LivedLines f K G lines before out i m → LivedLines f K G lines out out i m
-lived_from f K G lines before out i m l = record { within = l.within; room = l.room; places = refl; so_far = l.so_far; at = l.at; kept = λ j h. refl }
-
-pub lived_since : {L : Type 0} (f : L → Option Call) (K : Kind) (G : Graph) (lines : List L) (before mid out : List Answer) (i : ℕ) (m : Moment)
-    → length mid ≡ length before → OthersKept f lines before mid → LivedLines f K G lines mid out i m → LivedLines f K G lines before out i m
-lived_since f K G lines before mid out i m e h l =
-    record { within = l.within; room = l.room; places = l.places ∙ e; so_far = l.so_far; at = l.at; kept = λ j none. l.kept j none ∙ h j none }
+  pub lived_front : (out : List Answer) (m : Moment) → LivedLines f K G lines before out (min (length lines) (length out)) m
+      → Life K G created (calls_among f (common_front lines before lines)) (answers_among f (common_front lines before lines) (common_front lines before out))
+  lived_front out m l = rw l.places at l.so_far
 
 -- ---- lines that are all calls
 pub all_calls : (cs : List Call) → calls_among Some cs ≡ cs

@@ -1,6 +1,10 @@
 -- Lines of which some are calls: the calls among them, and the answers in the places of these.
-use Rattle.std.specs.Prelude.{◌≡◌, ℕ, zero, suc, min, List, [], ◌∷◌, length, take, Some, None, Option}
+use Rattle.std.specs.Prelude.{◌≡◌, ◌≤◌, ℕ, zero, suc, min, List, [], ◌∷◌, length, take, Some, None, Option}
 use Rattle.std.specs.List.{slice_get}
+use Rattle.maps.specs.Graph.{Graph}
+use Rattle.lengths.specs.Kinds.{Kind}
+use Rattle.calls.specs.Moments.{Moment, created, after}
+use Rattle.calls.specs.Lives.{Life, after_all}
 use Rattle.calls.specs.declared.Call.{Call}
 use Rattle.calls.specs.declared.Answer.{Answer}
 
@@ -38,3 +42,17 @@ call_at f (x ∷ xs) (suc j) = call_at f xs j
 -- every place but those of calls holds what it held before
 abbrev pub OthersKept : {L : Type 0} → (L → Option Call) → List L → List Answer → List Answer → Type 0
 OthersKept f lines before now = (j : ℕ) → call_at f lines j ≡ None → slice_get now j ≡ slice_get before j
+
+-- the calls among the lines below i have their answers in out, and lead to the moment m; the other places are as before
+pub record LivedLines {L : Type 0} (f : L → Option Call) (K : Kind) (G : Graph) (lines : List L) (before out : List Answer) (i : ℕ) (m : Moment) : Type 0 where
+  pub within : i ≤ length lines
+  pub room : i ≤ length out
+  pub places : length out ≡ length before
+  pub so_far : Life K G created (calls_among f (take i lines)) (answers_among f (take i lines) (take i out))
+  pub at : m ≡ after_all G created (calls_among f (take i lines))
+  pub kept : OthersKept f lines before out
+
+-- a state that has come to the moment m has lived on: to the end of its turn, or else as far as lines and places reach
+abbrev pub LivedOn : {L : Type 0} → (L → Option Call) → Kind → Graph → List L → List Answer → List Answer → Moment → Call → Option ℕ → Type 0
+LivedOn f K G lines before out m c None = LivedLines f K G lines before out (min (length lines) (length out)) m
+LivedOn f K G lines before out m c (Some i) = LivedLines f K G lines before out i (after G m c)

@@ -7,18 +7,21 @@
 // A list that is longer than the places for answers is lived as far as the places reach; nothing is said of the calls after that.
 #![tactic(auto)]
 
-ghost use Rattle.std.specs.Prelude.{◌≡◌, true, false, length, drop, Some, Option as Maybe, ◌≢◌};
+ghost use Rattle.std.specs.Prelude.{◌≡◌, ◌<◌, ◌≤◌, true, false, List, length, drop, Some, Option as Maybe, IsNone, IsSome, IfSome, ◌↔◌, refl};
+ghost use Rattle.lengths.specs.Kinds.{Kind};
 ghost use Rattle.calls.specs.declared.Call.{Call as Command};
 ghost use Rattle.calls.specs.declared.Call.TheVariants.{Build, Replan};
-ghost use Rattle.calls.specs.Moments.{created, after};
-ghost use Rattle.calls.specs.Gives.{said_of, answer_of, Gives};
+ghost use Rattle.calls.specs.declared.Answer.{Answer};
+ghost use Rattle.calls.specs.declared.Answer.TheVariants.{Done};
+ghost use Rattle.calls.specs.Moments.{Moment, created, after};
+ghost use Rattle.calls.specs.Gives.{Gives};
 ghost use Rattle.calls.specs.Lives.{Life, front};
 ghost use Rattle.calls.specs.Promise.{LengthsBest, NoWaysExact, AnswersAgree, Promise};
 ghost use Rattle.tables.specs.Tables.{moment_of};
 ghost use Rattle.tables.specs.Fits.{PlanFits, IndexFits};
-ghost use Rattle.lives.specs.Lines.{common_front, calls_among, answers_among, OthersKept};
+ghost use Rattle.lives.specs.Lines.{common_front, calls_among, answers_among, OthersKept, LivedLines, LivedOn};
 
-use calls::{Answer, Call, Fault, Reply};
+use calls::{Answer, Call, Fault};
 use lengths::Zeroed;
 use maps::TwoWay;
 use oracle::{Index, Plan};
@@ -48,60 +51,103 @@ impl Line for Option<Call> {
     }
 }
 
-// The result of a call that is done or refused, as an answer.
-fn done(res: Result<(), Fault>) -> Answer
-    ensures { result ≡ said_of res }
-{
-    match res {
-        Ok(()) => Answer::Done,
-        Err(fault) => Answer::Refused(fault),
+/// The oracle between two of its changes: a plan answers every call but build, an index every call but replan.
+trait State<M: TwoWay> {
+    ghost kind: { Kind };
+
+    ghost ending: { Command };
+
+    ghost map_of: { Self → M };
+
+    ghost moment: { Self → Moment };
+
+    ghost Fits: { Self → Type 0 };
+
+    /// The answer of the call; none if the call ends the state, which is then as it was.
+    fn answer(&mut self, call: Call) -> Option<Answer>
+        requires { Fits self.old }
+        ensures same { map_of self.new ≡ map_of self.old }
+        ensures fits { Fits self.new }
+        ensures ends { IsNone result ↔ (call ≡ ending) }
+        ensures kept { IsNone result → self.new ≡ self.old }
+        ensures answered { IfSome result (Gives kind (M.Map.graph (map_of self.old)) (moment self.old) call) }
+        ensures moved { IsSome result → moment self.new ≡ after (M.Map.graph (map_of self.old)) (moment self.old) call };
+
+    ghost ends_done: { (s : Self) → Gives kind (M.Map.graph (map_of s)) (moment s) ending Done };
+}
+
+impl<M: TwoWay, K: Zeroed> State<M> for Plan<M, K> {
+    ghost kind = { K.Length.kind };
+
+    ghost ending = { Build };
+
+    ghost map_of = { λ plan. plan.map };
+
+    ghost moment = { λ plan. moment_of false plan.tables };
+
+    ghost Fits = { λ plan. PlanFits (M.Map.graph plan.map) plan.tables };
+
+    ghost ends_done = { λ _. refl };
+
+    fn answer(&mut self, call: Call) -> Option<Answer> {
+        match call {
+            Call::Name(v) => Some(self.name(v).into()),
+            Call::Build => None,
+            _ => Some(Answer::Refused(Fault::StateLacks)),
+        }
     }
 }
 
-// The result of an ask, as an answer.
-fn reply(res: Result<Reply, Fault>) -> Answer
-    ensures { result ≡ answer_of res }
-{
-    match res {
-        Ok(found) => match found.length {
-            Some(length) => Answer::Length(length, found.redone),
-            None => Answer::NoWay(found.redone),
-        },
-        Err(fault) => Answer::Refused(fault),
+impl<M: TwoWay, K: Zeroed> State<M> for Index<M, K> {
+    ghost kind = { K.Length.kind };
+
+    ghost ending = { Replan };
+
+    ghost map_of = { λ index. index.map };
+
+    ghost moment = { λ index. moment_of true index.tables };
+
+    ghost Fits = { λ index. IndexFits K.Length.kind (M.Map.graph index.map) index.tables };
+
+    ghost ends_done = { λ _. refl };
+
+    fn answer(&mut self, call: Call) -> Option<Answer> {
+        match call {
+            Call::Close(e) => Some(self.close(e).into()),
+            Call::Reopen(e) => Some(self.reopen(e).into()),
+            Call::Ask(s, t) => Some(self.ask(s, t).into()),
+            Call::Tally => Some(Answer::Count(self.tally())),
+            Call::Replan => None,
+            Call::Name(_) | Call::Build => Some(Answer::Refused(Fault::StateLacks)),
+        }
     }
 }
 
-// One call of a plan, but build.
-fn plan_call<M: TwoWay, K: Zeroed>(plan: &mut Plan<M, K>, call: Call) -> Answer
-    requires fits { PlanFits (M.Map.graph plan.old.map) plan.old.tables }
-    requires other { call ≢ Build }
-    ensures same { plan.new.map ≡ plan.old.map }
-    ensures fits { PlanFits (M.Map.graph plan.old.map) plan.new.tables }
-    ensures answer { Gives K.Length.kind (M.Map.graph plan.old.map) (moment_of false plan.old.tables) call result }
-    ensures moment { moment_of false plan.new.tables ≡ after (M.Map.graph plan.old.map) (moment_of false plan.old.tables) call }
+// Lives the lines from a place on by one state, up to the call that ends it, which is done; answers the place after that call. None if
+// the lines or the places for answers end before.
+fn live_state<M: TwoWay, S: State<M>, L: Line>(
+    state: &mut S,
+    lines: &[L],
+    answers: &mut [Answer],
+    from: usize,
+) -> Option<usize>
+    requires { S.Fits state.old }
+    ensures same { S.map_of state.new ≡ S.map_of state.old }
+    ensures fits { S.Fits state.new }
+    ensures on { IfSome result (λ next. (from < next) × (next ≤ length lines.now)) }
+    ensures lived { (before : List Answer) → LivedLines L.Line.meant S.kind (M.Map.graph (S.map_of state.old)) lines.now before answers.old from (S.moment state.old) → LivedOn L.Line.meant S.kind (M.Map.graph (S.map_of state.old)) lines.now before answers.new (S.moment state.new) S.ending result }
 {
-    match call {
-        Call::Name(v) => done(plan.name(v)),
-        _ => Answer::Refused(Fault::StateLacks),
+    // By index: what a zip with `iter_mut` leaves in `answers` is not known (`returns-clause-lived`).
+    for i in from..lines.len().min(answers.len()) {
+        if let Some(call) = lines[i].call() {
+            let Some(answer) = state.answer(call) else {
+                answers[i] = Answer::Done;
+                return Some(i + 1);
+            };
+            answers[i] = answer;
+        }
     }
-}
-
-// One call of an index, but replan.
-fn index_call<M: TwoWay, K: Zeroed>(index: &mut Index<M, K>, call: Call) -> Answer
-    requires fits { IndexFits K.Length.kind (M.Map.graph index.old.map) index.old.tables }
-    requires other { call ≢ Replan }
-    ensures same { index.new.map ≡ index.old.map }
-    ensures fits { IndexFits K.Length.kind (M.Map.graph index.old.map) index.new.tables }
-    ensures answer { Gives K.Length.kind (M.Map.graph index.old.map) (moment_of true index.old.tables) call result }
-    ensures moment { moment_of true index.new.tables ≡ after (M.Map.graph index.old.map) (moment_of true index.old.tables) call }
-{
-    match call {
-        Call::Close(e) => done(index.close(e)),
-        Call::Reopen(e) => done(index.reopen(e)),
-        Call::Ask(s, t) => reply(index.ask(s, t)),
-        Call::Tally => Answer::Count(index.tally()),
-        Call::Name(_) | Call::Build | Call::Replan => Answer::Refused(Fault::StateLacks),
-    }
+    None
 }
 
 /// A life over lines: each line that is a call has its answer in the place of its number, and every other place stays as it was. The map is
@@ -112,39 +158,16 @@ pub fn live_lines<M: TwoWay, K: Zeroed, L: Line>(map: M, lines: &[L], answers: &
     ensures kept { OthersKept L.Line.meant lines.now answers.old answers.new }
 {
     let mut plan = Plan::<M, K>::new(map);
-    let mut i = 0;
-    loop {
-        while i < lines.len() && i < answers.len() {
-            if let Some(call) = lines[i].call() {
-                if let Call::Build = call {
-                    break;
-                }
-                answers[i] = plan_call(&mut plan, call);
-            }
-            i += 1;
-        }
-        if i >= lines.len() || i >= answers.len() {
-            return plan.into_map();
-        }
-        answers[i] = Answer::Done; // built
-        i += 1;
+    let mut from = 0;
+    while let Some(built) = live_state(&mut plan, lines, answers, from) {
         let mut index = plan.build();
-        while i < lines.len() && i < answers.len() {
-            if let Some(call) = lines[i].call() {
-                if let Call::Replan = call {
-                    break;
-                }
-                answers[i] = index_call(&mut index, call);
-            }
-            i += 1;
-        }
-        if i >= lines.len() || i >= answers.len() {
+        let Some(planned) = live_state(&mut index, lines, answers, built) else {
             return index.into_map();
-        }
-        answers[i] = Answer::Done; // planned anew
-        i += 1;
+        };
         plan = index.replan();
+        from = planned;
     }
+    plan.into_map()
 }
 
 /// A whole life: each call has its answer in the place of its number; places past the calls stay as they were. The map is given back.

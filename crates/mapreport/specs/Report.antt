@@ -1,5 +1,6 @@
 -- The text that says what a map file holds: a line with the format and the counts, and a line for each street by rising slots.
-use Rattle.std.specs.Prelude.{ℕ, zero, suc, ◌+◌, cond, List, [], ◌∷◌, ◌++◌, Some, None, codes, decimal, Option, ◌==◌}
+use Rattle.std.specs.Prelude.{ℕ, cond, List, [], ◌∷◌, ◌++◌, Some, None, codes, decimal, Option, ◌==◌, count_by, is_some}
+use Rattle.std.specs.List.{flat_map, range_with_len}
 use Rattle.maps.specs.Graph.{Street, Graph}
 use Rattle.formats.specs.Bytes.{byte_at}
 use Rattle.sheet.specs.Layout.{sheet_graph}
@@ -17,19 +18,12 @@ street_line e None = []
 street_line e (Some s) = codes "slot " ++ (decimal e ++ (codes ": " ++ (decimal s.0 ++ (codes " to " ++ (decimal s.1 ++ (codes ", length " ++ (decimal s.2 ++ line_end)))))))
 
 -- the lines of the streets in slots 1 to k
-unfoldable pub street_lines : Graph → ℕ → List ℕ
-street_lines g zero = []
-street_lines g (suc k) = street_lines g k ++ street_line (suc k) (g.street (suc k))
-
--- 1 for a street, 0 for an empty slot
-abbrev pub one : Option Street → ℕ
-one None = 0
-one (Some s) = 1
+abbrev pub street_lines : Graph → ℕ → List ℕ
+street_lines g k = flat_map (λ e. street_line e (g.street e)) (range_with_len 1 k)
 
 -- how many of slots 1 to k hold a street
-unfoldable pub street_count : Graph → ℕ → ℕ
-street_count g zero = 0
-street_count g (suc k) = street_count g k + one (g.street (suc k))
+abbrev pub street_count : Graph → ℕ → ℕ
+street_count g k = count_by (λ e. is_some (g.street e)) (range_with_len 1 k)
 
 -- the first line: `NAME: junctions N, slots M, streets K`
 abbrev pub head_line : List ℕ → ℕ → ℕ → ℕ → List ℕ
@@ -47,13 +41,9 @@ refusal_text k = codes "refused 0 " ++ (decimal k ++ line_end)
 abbrev pub file_text : List ℕ → Graph → ℕ → List ℕ
 file_text name g k = cond (k == 0) (map_text name g) (refusal_text k)
 
--- the text of bytes that are taken for a sheet, and for a block
-abbrev pub sheet_text : List ℕ → List ℕ
-sheet_text bs = file_text (codes "sheet") (sheet_graph bs) (sheet.refusal bs)
-
-abbrev pub block_text : List ℕ → List ℕ
-block_text bs = file_text (codes "block") (block_graph bs) (block.refusal bs)
-
 -- the text of a map file: a first byte hex 47 means a block, any other or none a sheet
 abbrev pub report_of : List ℕ → List ℕ
-report_of bs = cond (byte_at bs 0 == 0x47) (block_text bs) (sheet_text bs)
+report_of bs =
+    cond (byte_at bs 0 == 0x47)
+    (file_text (codes "block") (block_graph bs) (block.refusal bs))
+    (file_text (codes "sheet") (sheet_graph bs) (sheet.refusal bs))

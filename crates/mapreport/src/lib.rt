@@ -7,24 +7,19 @@
 #![tactic(auto)]
 
 ghost use Rattle.std.specs.Prelude.{◌≡◌, ◌++◌, IfOk, string_bytes, OnOk};
-ghost use Rattle.mapreport.specs.Report.{street_line, street_count, head_line, map_text, refusal_text, sheet_text, block_text, report_of};
+ghost use Rattle.mapreport.specs.Report.{street_line, street_count, head_line, map_text, refusal_text, file_text, report_of};
 
-use block::{least_block, open_block};
+use block::Block;
+use formats::MapFile;
 use maps::Map;
-use sheet::{least_sheet, open_sheet};
+use sheet::Sheet;
 use std::alloc::{AllocError, Global};
 
 // How many slots hold a street.
-fn count_streets<M: Map>(map: &M) -> u16
+fn count_streets<M: Map>(map: &M) -> usize
     ensures { result ≡ street_count (M.Map.graph map.now) (M.Map.graph map.now).slots }
 {
-    let mut count = 0;
-    for e in 1..map.slots() + 1 {
-        if map.slot(e).is_some() {
-            count += 1;
-        }
-    }
-    count
+    (1..=map.slots()).filter(|&e| map.slot(e).is_some()).count()
 }
 
 // Appends the line of slot e, if it holds a street.
@@ -44,7 +39,7 @@ fn add_street(
 }
 
 // The first line of a map's text.
-fn head_line(heap: Global, name: &str, n: u16, m: u16, count: u16) -> Result<String, AllocError>
+fn head_line(heap: Global, name: &str, n: u16, m: u16, count: usize) -> Result<String, AllocError>
     ensures { IfOk result (λ s. string_bytes s ≡ head_line name.now n m count) }
 {
     format!(in heap; "{name}: junctions {n}, slots {m}, streets {count}\n")
@@ -56,7 +51,7 @@ pub fn describe<M: Map>(heap: Global, name: &str, map: &M) -> Result<String, All
 {
     let m = map.slots();
     let mut text = head_line(heap, name, map.junctions(), m, count_streets(map))?;
-    for e in 1..m + 1 {
+    for e in 1..=m {
         add_street(heap, &mut text, e, map.slot(e))?;
     }
     Ok(text)
@@ -69,24 +64,17 @@ fn refused(heap: Global, number: u8) -> Result<String, AllocError>
     format!(in heap; "refused 0 {number}\n")
 }
 
-// The text of bytes that are taken for a sheet.
-fn report_sheet(heap: Global, bytes: &[u8]) -> Result<String, AllocError>
-    ensures { IfOk result (λ s. string_bytes s ≡ sheet_text bytes.now) }
+// The text of bytes that are taken for a map of one format, under the name of the format.
+fn report_as<'a, F: MapFile<'a>>(
+    heap: Global,
+    name: &str,
+    bytes: &'a [u8],
+) -> Result<String, AllocError>
+    ensures { IfOk result (λ s. string_bytes s ≡ file_text name.now (F.held bytes.now) (F.refusal bytes.now)) }
 {
-    let mut place = least_sheet();
-    match open_sheet(bytes, &mut place) {
-        Ok(()) => describe(heap, "sheet", &place),
-        Err(fault) => refused(heap, fault.number()),
-    }
-}
-
-// The text of bytes that are taken for a block.
-fn report_block(heap: Global, bytes: &[u8]) -> Result<String, AllocError>
-    ensures { IfOk result (λ s. string_bytes s ≡ block_text bytes.now) }
-{
-    let mut place = least_block();
-    match open_block(bytes, &mut place) {
-        Ok(()) => describe(heap, "block", &place),
+    let mut place = F::least();
+    match F::open(bytes, &mut place) {
+        Ok(()) => describe(heap, name, &place),
         Err(fault) => refused(heap, fault.number()),
     }
 }
@@ -95,9 +83,9 @@ fn report_block(heap: Global, bytes: &[u8]) -> Result<String, AllocError>
 pub fn report(heap: Global, bytes: &[u8]) -> Result<String, AllocError>
     ensures { IfOk result (λ s. string_bytes s ≡ report_of bytes.now) }
 {
-    if bytes.len() > 0 && bytes[0] == 0x47 {
-        report_block(heap, bytes)
+    if bytes.starts_with(b"\x47") {
+        report_as::<Block>(heap, "block", bytes)
     } else {
-        report_sheet(heap, bytes)
+        report_as::<Sheet>(heap, "sheet", bytes)
     }
 }

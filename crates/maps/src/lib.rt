@@ -67,10 +67,9 @@ impl<'a, M: TwoWay> Map for Reversed<'a, M> {
     }
 
     fn slot(&self, e: u16) -> Option<(u16, u16, u32)> {
-        match self.map.slot(e) {
-            Some((tail, head, length)) => Some((head, tail, length)),
-            None => None,
-        }
+        self.map
+            .slot(e)
+            .map(|(tail, head, length)| (head, tail, length))
     }
 
     fn first_leaving(&self, v: u16) -> Option<u16> {
@@ -97,10 +96,5 @@ pub fn equal_streets<M: Map, N: Map>(a: &M, b: &N) -> bool
     ensures { Decides result (EqualStreets (M.Map.graph a.now) (N.Map.graph b.now)) }
 {
     let last = a.slots().max(b.slots());
-    for e in 1..last + 1 {
-        if a.slot(e) != b.slot(e) {
-            return false;
-        }
-    }
-    true
+    (1..=last).all(|e| a.slot(e) == b.slot(e))
 }

@@ -1,45 +1,30 @@
 // The number of closed streets that each stored tree keeps, as a street is closed or reopened.
-ghost use Rattle.std.specs.Prelude.{◌≡◌, ℕ, ◌+◌, ◌-◌, ◌<◌, true};
+ghost use Rattle.std.specs.Prelude.{◌≡◌, ℕ, true};
 ghost use Rattle.walks.specs.Streets.{member};
-ghost use Rattle.tables.specs.Tables.{list_of, count_in};
-ghost use Rattle.marking.specs.Marking.{Raised, Within};
+ghost use Rattle.tables.specs.Tables.{count_in};
+ghost use Rattle.marking.specs.Marking.{Within, HasRoom, next_count, Recounted};
 
-use tables::{Holders, TreeRecord};
+use tables::TreeRecord;
 
-// One closed street more in a tree.
-fn raise(kept: &mut TreeRecord)
-    requires { kept.old.closed < 65535 }
-    ensures { kept.new ≡ record { tree = kept.old.tree; closed = kept.old.closed + 1 } }
+// One closed street more in a tree, or one less.
+fn count_mark(kept: &mut TreeRecord, closed: bool)
+    requires { HasRoom closed kept.old.closed }
+    ensures { kept.new ≡ record { tree = kept.old.tree; closed = next_count closed kept.old.closed } }
 {
-    kept.closed += 1;
-}
-
-// One closed street less in a tree.
-fn lower(kept: &mut TreeRecord)
-    requires { 0 < kept.old.closed }
-    ensures { kept.new ≡ record { tree = kept.old.tree; closed = kept.old.closed - 1 } }
-{
-    kept.closed -= 1;
-}
-
-// A street is closed: each tree that holds it counts one more.
-pub(crate) fn raise_all(trees: &mut [TreeRecord; 16], row: &Holders)
-    requires within { Within row.now }
-    requires room { (i : ℕ) → member (list_of row.now) i ≡ true → count_in trees.old i < 65535 }
-    ensures { Raised (list_of row.now) trees.old trees.new }
-{
-    for k in 0..row.count {
-        raise(&mut trees[row.positions[k] as usize - 1]);
+    if closed {
+        kept.closed += 1;
+    } else {
+        kept.closed -= 1;
     }
 }
 
-// A street is open again: each tree that holds it counts one less.
-pub(crate) fn lower_all(trees: &mut [TreeRecord; 16], row: &Holders)
+// A street is closed or open again: each tree that holds it counts one more or one less.
+pub(crate) fn recount(trees: &mut [TreeRecord; 16], row: &[u16], closed: bool)
     requires within { Within row.now }
-    requires some { (i : ℕ) → member (list_of row.now) i ≡ true → 0 < count_in trees.old i }
-    ensures { Raised (list_of row.now) trees.new trees.old }
+    requires room { (i : ℕ) → member row.now i ≡ true → HasRoom closed (count_in trees.old i) }
+    ensures { Recounted closed row.now trees.old trees.new }
 {
-    for k in 0..row.count {
-        lower(&mut trees[row.positions[k] as usize - 1]);
+    for &position in row {
+        count_mark(&mut trees[usize::from(position) - 1], closed);
     }
 }

@@ -81,39 +81,31 @@ impl<M: TwoWay, K: Zeroed> Index<M, K> {
         requires { IndexFits K.Length.kind (M.Map.graph self.now.map) self.now.tables }
         ensures { result ≡ index_look K.Length.kind (M.Map.graph self.now.map) (moment_of true self.now.tables).listed e k }
     {
-        if e == 0 || e > 512 {
-            return None;
-        }
-        let row = self.tables.holders[e as usize - 1];
+        let at = e.checked_sub(1)?;
+        let row = self.tables.holders.get(usize::from(at))?;
         row.nth_position(k)
     }
 
     /// A plan again: closures and tally stay, the transit list is emptied.
-    pub fn replan(self) -> Plan<M, K>
+    pub fn replan(mut self) -> Plan<M, K>
         requires { IndexFits K.Length.kind (M.Map.graph self.map) self.tables }
         ensures whole { result ≡ record { map = self.map; tables = unnamed self.tables; kind = self.kind } }
         ensures fits { PlanFits (M.Map.graph result.map) result.tables }
         ensures same { result.map ≡ self.map }
         ensures moment { moment_of false result.tables ≡ after (M.Map.graph self.map) (moment_of true self.tables) Replan }
     {
-        let Index {
-            map,
-            mut tables,
-            kind,
-        } = self;
-        tables.named = 0;
-        Plan { map, tables, kind }
+        self.tables.transit.clear();
+        Plan {
+            map: self.map,
+            tables: self.tables,
+            kind: PhantomData,
+        }
     }
 
     /// The map, given back.
     pub fn into_map(self) -> M
         ensures { result ≡ self.map }
     {
-        let Index {
-            map,
-            tables: _,
-            kind: _,
-        } = self;
-        map
+        self.map
     }
 }

@@ -43,52 +43,40 @@ impl<M: TwoWay, K: Zeroed> Plan<M, K> {
         requires { PlanFits (M.Map.graph self.old.map) self.old.tables }
         ensures answer { result ≡ outcome (name_fault (M.Map.graph self.old.map) (transit_of self.old.tables) v) }
         ensures kept { is_ok result ≡ false → self.new ≡ self.old }
-        ensures named { is_ok result ≡ true → self.new ≡ record { map = self.old.map; tables = tables_with_name self.old.tables v; kind = self.old.kind } }
+        ensures named { is_ok result ≡ true → self.new ≡ record self.old { tables = tables_with_name self.old.tables v } }
         ensures fits { PlanFits (M.Map.graph self.new.map) self.new.tables }
         ensures same { self.new.map ≡ self.old.map }
         ensures moment { moment_of false self.new.tables ≡ after (M.Map.graph self.old.map) (moment_of false self.old.tables) (Name v) }
     {
-        if v < 1 || v > self.map.junctions() {
+        if !(1..=self.map.junctions()).contains(&v) {
             return Err(Fault::OffMap);
         }
-        let at = self.tables.named;
-        if is_listed(&self.tables.transit[0..at], v) {
+        if is_listed(self.tables.transit.as_slice(), v) {
             return Err(Fault::AlreadyNamed);
         }
-        if at >= 16 {
-            return Err(Fault::ListFull);
-        }
-        self.tables.transit[at] = v;
-        self.tables.named = at + 1;
-        Ok(())
+        self.tables.transit.try_push(v).map_err(|_| Fault::ListFull)
     }
 
     /// An index: the trees without any closure, the legs, the inverted index, and of each tree how many closed streets it holds.
-    pub fn build(self) -> Index<M, K>
+    pub fn build(mut self) -> Index<M, K>
         requires { PlanFits (M.Map.graph self.map) self.tables }
         ensures same { result.map ≡ self.map }
-        ensures kept { result.tables ≡ record { closed = self.tables.closed; transit = self.tables.transit; named = self.tables.named; tally = self.tables.tally; trees = result.tables.trees; legs = result.tables.legs; holders = result.tables.holders } }
+        ensures kept { result.tables ≡ record self.tables { trees = result.tables.trees; legs = result.tables.legs; holders = result.tables.holders } }
         ensures fits { IndexFits K.Length.kind (M.Map.graph result.map) result.tables }
         ensures moment { moment_of true result.tables ≡ after (M.Map.graph self.map) (moment_of false self.tables) Build }
     {
-        let Plan {
-            map,
-            mut tables,
-            kind,
-        } = self;
-        store::<M, K>(&map, &mut tables);
-        Index { map, tables, kind }
+        store::<M, K>(&self.map, &mut self.tables);
+        Index {
+            map: self.map,
+            tables: self.tables,
+            kind: PhantomData,
+        }
     }
 
     /// The map, given back.
     pub fn into_map(self) -> M
         ensures { result ≡ self.map }
     {
-        let Plan {
-            map,
-            tables: _,
-            kind: _,
-        } = self;
-        map
+        self.map
     }
 }

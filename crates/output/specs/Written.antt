@@ -1,5 +1,7 @@
 -- The written form of answers and refusals, and what a put does.
 use Rattle.std.specs.Prelude.{◌≡◌, ℕ, ◌+◌, ◌<◌, ◌≤◌, List, ◌++◌, length, codes, decimal}
+use Rattle.std.specs.List.{flat_map}
+use denote.Ref.{Bor}
 use Rattle.calls.specs.Faults.{number_of}
 use Rattle.calls.specs.declared.Answer.{Answer}
 use Rattle.calls.specs.declared.Answer.TheVariants.{Done, Length, NoWay, Count, Refused}
@@ -23,6 +25,10 @@ answer_line line (Refused f) = refusal_line line (number_of f)
 abbrev pub fault_line : ℕ → LineFault → List ℕ
 fault_line line NoForm = refusal_line line 51
 fault_line line (TooLarge d) = codes "refused " ++ (decimal line ++ (codes " 52 " ++ (d.now ++ codes "\n")))
+
+-- the bytes of all parts, one after another
+abbrev pub joined : List (Bor (List ℕ)) → List ℕ
+joined parts = flat_map (λ part. part.now) parts
 
 -- a line with this many copied digits is put at the end, if room is left for the longest such line
 pub record Put (old new : List ℕ) (digits : ℕ) (line : List ℕ) : Type 0 where

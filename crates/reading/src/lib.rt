@@ -13,27 +13,24 @@ pub const MAP_BYTES: u64 = 5_637;
 /// How many bytes of a command text are read: one more than the longest text that is worked.
 pub const TEXT_BYTES: u64 = 4_097;
 
+// The first bytes of a source, up to a limit.
+fn read_up_to(rt: &HostRuntime, source: impl Read + Drop, limit: u64) -> io::Result<Vec<u8>> {
+    let mut bytes = Vec::new(rt.alloc());
+    source.take(limit).read_to_end(&mut bytes)?;
+    Ok(bytes)
+}
+
 /// The first bytes of the map file, as many as count; none where there is no such file.
 pub fn read_map(rt: &HostRuntime) -> io::Result<Vec<u8>> {
-    let mut bytes = Vec::new(rt.alloc());
     match fs::open(rt, "map.bin") {
-        Ok(file) => {
-            file.take(MAP_BYTES).read_to_end(&mut bytes)?;
-        }
-        Err(e) => {
-            if e.kind() != io::ErrorKind::NotFound {
-                return Err(e);
-            }
-        }
+        Err(e) if e.kind() == io::ErrorKind::NotFound => Ok(Vec::new(rt.alloc())),
+        opened => read_up_to(rt, opened?, MAP_BYTES),
     }
-    Ok(bytes)
 }
 
 /// The command text, and no more of it than shows that it is too long.
 pub fn read_text(rt: &HostRuntime) -> io::Result<Vec<u8>> {
-    let mut bytes = Vec::new(rt.alloc());
-    rt.stdin().take(TEXT_BYTES).read_to_end(&mut bytes)?;
-    Ok(bytes)
+    read_up_to(rt, rt.stdin(), TEXT_BYTES)
 }
 
 #[cfg(test)]

@@ -5,7 +5,8 @@ use lengths::{Gates, Paces, Zeroed};
 use lives::live;
 use maps::{Map, TwoWay};
 use oracle::Plan;
-use sheet::{Sheet, least_sheet, open_sheet};
+use sheet::{Sheet, least_sheet};
+use std::alloc::Global;
 use std::process::Abort;
 use std::test::Fail;
 
@@ -27,25 +28,25 @@ fn lives_as<M: TwoWay + Drop, K: Zeroed>(
     }
 }
 
-// The same over the sheet of the bytes.
+// The same over the sheet with four junctions and these slots.
 fn sheet_lives_as<K: Zeroed>(
     rt: &impl Abort,
-    bytes: &[u8],
+    heap: Global,
+    slots: &[Slot],
     calls: &[Call],
     wanted: &[Answer],
 ) -> Result<(), Fail> {
-    let mut map = least_sheet();
-    open_sheet(bytes, &mut map)?;
-    lives_as::<Sheet<'_>, K>(rt, map, calls, wanted);
+    let bytes = drawn(heap, 4, slots)?;
+    lives_as::<Sheet<'_>, K>(rt, map_of::<Sheet<'_>>(bytes.as_slice())?, calls, wanted);
     Ok(())
 }
 
 #[test]
 fn paces_on_four_junctions(rt: HostRuntime) -> Result<(), Fail> {
-    let bytes = drawn(rt.alloc(), 4, &FOUR)?;
     sheet_lives_as::<Paces>(
         &rt,
-        bytes.as_slice(),
+        rt.alloc(),
+        &FOUR,
         &[
             Call::Name(2),
             Call::Build,
@@ -77,10 +78,10 @@ fn paces_on_four_junctions(rt: HostRuntime) -> Result<(), Fail> {
 
 #[test]
 fn gates_on_four_junctions(rt: HostRuntime) -> Result<(), Fail> {
-    let bytes = drawn(rt.alloc(), 4, &FOUR)?;
     sheet_lives_as::<Gates>(
         &rt,
-        bytes.as_slice(),
+        rt.alloc(),
+        &FOUR,
         &[Call::Build, Call::Ask(1, 4), Call::Ask(1, 1)],
         &[
             Answer::Done,
@@ -93,10 +94,10 @@ fn gates_on_four_junctions(rt: HostRuntime) -> Result<(), Fail> {
 // A tree is affected though its length survives, and trees are built without closures, so that reopening finds the old way.
 #[test]
 fn closures_outlast_a_build(rt: HostRuntime) -> Result<(), Fail> {
-    let bytes = drawn(rt.alloc(), 4, &DIAMOND)?;
     sheet_lives_as::<Paces>(
         &rt,
-        bytes.as_slice(),
+        rt.alloc(),
+        &DIAMOND,
         &[
             Call::Name(1),
             Call::Build,
@@ -146,9 +147,7 @@ fn the_tally_stops(rt: HostRuntime) {
 #[test]
 fn looks_end_with_the_list(rt: HostRuntime) -> Result<(), Fail> {
     let bytes = drawn(rt.alloc(), 4, &FOUR)?;
-    let mut map = least_sheet();
-    open_sheet(bytes.as_slice(), &mut map)?;
-    let mut plan = Plan::<Sheet<'_>, Paces>::new(map);
+    let mut plan = Plan::<Sheet<'_>, Paces>::new(map_of::<Sheet<'_>>(bytes.as_slice())?);
     assert!(rt; plan.name(2).is_ok());
     assert!(rt; plan.name(3).is_ok());
     let index = plan.build();
@@ -168,27 +167,12 @@ fn looks_end_with_the_list(rt: HostRuntime) -> Result<(), Fail> {
 // Sixteen junctions are named, and one of them when they are named anew.
 #[test]
 fn one_named_after_sixteen(rt: HostRuntime) -> Result<(), Fail> {
-    let streets = dense(rt.alloc(), 16, Some(1))?;
-    let bytes = drawn(rt.alloc(), 16, streets.as_slice())?;
-    let mut map = least_sheet();
-    open_sheet(bytes.as_slice(), &mut map)?;
-    let mut plan = Plan::<Sheet<'_>, Paces>::new(map);
-    let _ = plan.name(1);
-    let _ = plan.name(2);
-    let _ = plan.name(3);
-    let _ = plan.name(4);
-    let _ = plan.name(5);
-    let _ = plan.name(6);
-    let _ = plan.name(7);
-    let _ = plan.name(8);
-    let _ = plan.name(9);
-    let _ = plan.name(10);
-    let _ = plan.name(11);
-    let _ = plan.name(12);
-    let _ = plan.name(13);
-    let _ = plan.name(14);
-    let _ = plan.name(15);
-    let _ = plan.name(16);
+    let slots = dense(rt.alloc(), 16, Some(1))?;
+    let bytes = drawn(rt.alloc(), 16, slots.as_slice())?;
+    let mut plan = Plan::<Sheet<'_>, Paces>::new(map_of::<Sheet<'_>>(bytes.as_slice())?);
+    for v in 1..=16 {
+        let _ = plan.name(v);
+    }
     let index = plan.build();
     assert_eq!(rt; index.look_tree(16, 1), Some((241, 1)));
     assert_eq!(rt; index.look_leg(2, 16), Some(1));

@@ -1,4 +1,4 @@
-pub mod Noting
+pub mod Rooms
 pub mod Telling
 pub mod Same
 pub mod Joining

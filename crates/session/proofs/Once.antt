@@ -1,8 +1,8 @@
 -- What is printed for bytes and a text is one text.
-use Rattle.std.proofs.Common.{◌≡◌, ℕ, zero, suc, ◌+◌, ◌^◌, ◌<◌, ◌≤◌, Bool, true, false, cond, List, [], ◌∷◌, ◌++◌, length, get_or, take, Some, None, Ok, Err, Option, sym, refl, ap, ◌∙◌, subst, arith}
+use Rattle.std.proofs.Common.{◌≡◌, ℕ, zero, suc, ◌+◌, ◌≤◌, Bool, true, false, cond, List, [], ◌∷◌, ◌++◌, length, get_or, take, Ok, Err, Option, sym, refl, ap, ◌∙◌, subst, arith}
 use Rattle.std.specs.Result.{result_ok}
 use Rattle.maps.specs.Graph.{Graph, LawfulMap}
-use Rattle.formats.specs.Bytes.{byte_at, Bytes}
+use Rattle.formats.specs.Bytes.{Bytes}
 use Rattle.sheet.specs.Layout.{sheet_graph}
 use Rattle.sheet.specs.Refusal.{refusal as sheet_refusal}
 use Rattle.sheet.specs.Laws.{sheet_lawful}

@@ -1,5 +1,5 @@
--- What is printed where a map file or a text is refused, and which of the layouts is tried.
-use Rattle.std.proofs.Common.{◌≡◌, ℕ, ◌<◌, ◌≤◌, Bool, true, false, cond, ltb, List, [], ◌∷◌, ◌++◌, length, sym, refl, ap, ◌∙◌, subst, arith}
+-- What is printed where a map file or a text is refused.
+use Rattle.std.proofs.Common.{◌≡◌, ℕ, ◌<◌, Bool, true, false, cond, List, [], ◌++◌, length, sym, ap, ◌∙◌, subst, arith}
 use Rattle.maps.specs.Graph.{Graph}
 use Rattle.formats.specs.Faults.{number_of}
 use Rattle.formats.specs.declared.OpenFault.{OpenFault}
@@ -35,20 +35,3 @@ refused_over refusal G text f k old new is e none put =
 pub faulty_text : (G : Graph) (text : List ℕ) (f : TextFault) (k : ℕ) (old new : List ℕ) → Faulty text f → k ≡ fault_number f → old ≡ [] → Put old new 0 (refusal_line 1 k) → PrintsText G text new
 faulty_text G text f k old new is e none put =
     subst (PrintsText G text) (sym (put_first old new (refusal_line 1 k) none put ∙ ap (refusal_line 1) e)) (faulty f is)
-
--- no bytes are no block
-pub none_block : (bytes : List ℕ) → length bytes ≤ 0 → ltb 0 (length bytes) ≡ is_block bytes
-none_block [] h = refl
-none_block (b ∷ bs) h = absurd (omega arith)
-
-pub as_block_lem : (map bytes text out : List ℕ) → bytes ≡ counted map → is_block bytes ≡ true → PrintsOver (block_refusal bytes) (block_graph bytes) text out → Prints map text out
-as_block_lem map bytes text out e is p =
-    let there : is_block (counted map) ≡ true = subst (λ (l : List ℕ). is_block l ≡ true) e is in
-    subst (λ (b : Bool). cond b (PrintsOver (block_refusal (counted map)) (block_graph (counted map)) text out) (PrintsOver (sheet_refusal (counted map)) (sheet_graph (counted map)) text out)) (sym there)
-    (subst (λ (l : List ℕ). PrintsOver (block_refusal l) (block_graph l) text out) e p)
-
-pub as_sheet_lem : (map bytes text out : List ℕ) → bytes ≡ counted map → is_block bytes ≡ false → PrintsOver (sheet_refusal bytes) (sheet_graph bytes) text out → Prints map text out
-as_sheet_lem map bytes text out e is p =
-    let there : is_block (counted map) ≡ false = subst (λ (l : List ℕ). is_block l ≡ false) e is in
-    subst (λ (b : Bool). cond b (PrintsOver (block_refusal (counted map)) (block_graph (counted map)) text out) (PrintsOver (sheet_refusal (counted map)) (sheet_graph (counted map)) text out)) (sym there)
-    (subst (λ (l : List ℕ). PrintsOver (sheet_refusal l) (sheet_graph l) text out) e p)

@@ -7,30 +7,30 @@
 #![tactic(auto)]
 
 ghost use Rattle.std.specs.Prelude.{◌≡◌, ◌≤◌, [], length};
-ghost use Rattle.block.specs.Layout.{block_graph};
-ghost use Rattle.block.specs.Refusal.{refusal as block_refusal};
 ghost use Rattle.commands.specs.Text.{lines_of};
 ghost use Rattle.output.specs.Printed.{printed};
-ghost use Rattle.sheet.specs.Layout.{sheet_graph};
-ghost use Rattle.sheet.specs.Refusal.{refusal as sheet_refusal};
 ghost use Rattle.session.specs.Prints.{Answered, Prints, PrintsOnce, PrintsOver, PrintsText, counted, is_block, kind_of};
 
 mod lines;
 
-use block::{least_block, open_block};
-use commands::{KindWord, open_text};
+use block::Block;
+use commands::{KindWord, LONGEST_TEXT, open_text};
+use formats::MapFile;
 use lengths::{Gates, Paces, kinds_are_lawful};
 use lines::answer_lines;
 use maps::TwoWay;
 use output::Output;
-use sheet::{least_sheet, open_sheet};
+use sheet::Sheet;
 
 // How many bytes of a map file count: one more than the longest lawful file has.
 const LONGEST_MAP: usize = 5_637;
 
+// Map, text and output pass through the next two functions and `answer_lines` one by one: each takes the map over and leaves less of the
+// text. Each says of its own that the output is empty: a type for that would stand for one moment of one call.
+
 // Works the command lines with the kind of length that the word names, into an empty output.
 fn answer_kind<M: TwoWay + Drop>(map: M, kind: KindWord, text: &[u8], out: &mut Output)
-    requires { (length text.now ≤ 4096) × (printed out.old ≡ []) }
+    requires { (length text.now ≤ LONGEST_TEXT) × (printed out.old ≡ []) }
     ensures { Answered (kind_of kind) (M.Map.graph map) (lines_of text.now) (printed out.new) }
 {
     match kind {
@@ -50,25 +50,13 @@ fn run_on<M: TwoWay + Drop>(map: M, text: &[u8], out: &mut Output)
     }
 }
 
-// Runs a text over bytes that are taken for a sheet, into an empty output.
-fn run_sheet(bytes: &[u8], text: &[u8], out: &mut Output)
+// Runs a text over bytes that are taken for a map file of one format, into an empty output.
+fn run_file<'a, F: MapFile<'a>>(bytes: &'a [u8], text: &[u8], out: &mut Output)
     requires { printed out.old ≡ [] }
-    ensures { PrintsOver (sheet_refusal bytes.now) (sheet_graph bytes.now) text.now (printed out.new) }
+    ensures { PrintsOver (F.refusal bytes.now) (F.held bytes.now) text.now (printed out.new) }
 {
-    let mut place = least_sheet();
-    match open_sheet(bytes, &mut place) {
-        Ok(()) => run_on(place, text, out),
-        Err(fault) => out.put_refusal(0, fault.number()),
-    }
-}
-
-// Runs a text over bytes that are taken for a block, into an empty output.
-fn run_block(bytes: &[u8], text: &[u8], out: &mut Output)
-    requires { printed out.old ≡ [] }
-    ensures { PrintsOver (block_refusal bytes.now) (block_graph bytes.now) text.now (printed out.new) }
-{
-    let mut place = least_block();
-    match open_block(bytes, &mut place) {
+    let mut place = F::least();
+    match F::open(bytes, &mut place) {
         Ok(()) => run_on(place, text, out),
         Err(fault) => out.put_refusal(0, fault.number()),
     }
@@ -78,18 +66,14 @@ fn run_block(bytes: &[u8], text: &[u8], out: &mut Output)
 fn counting(map: &[u8]) -> &[u8]
     ensures { result.now ≡ counted map.now }
 {
-    if map.len() > LONGEST_MAP {
-        &map[..LONGEST_MAP]
-    } else {
-        map
-    }
+    &map[..map.len().min(LONGEST_MAP)]
 }
 
 // Whether the bytes are taken for a block; else they are taken for a sheet.
 fn is_block(bytes: &[u8]) -> bool
     ensures { result ≡ is_block bytes.now }
 {
-    bytes.len() > 0 && bytes[0] == 0x47
+    bytes.starts_with(b"\x47")
 }
 
 // Runs a command text over the bytes of a map file. What the output held before is cleared.
@@ -99,9 +83,9 @@ pub fn run_text(map: &[u8], text: &[u8], out: &mut Output)
     out.clear();
     let bytes = counting(map);
     if is_block(bytes) {
-        run_block(bytes, text, out);
+        run_file::<Block>(bytes, text, out);
     } else {
-        run_sheet(bytes, text, out);
+        run_file::<Sheet>(bytes, text, out);
     }
 }
 

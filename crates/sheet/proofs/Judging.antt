@@ -1,5 +1,5 @@
 -- The number of a refusal means what the layout says.
-use Rattle.std.proofs.Common.{◌≡◌, ℕ, true, false, cond, not, ◌||◌, eqb, ltb, List, length, sym, ap, ◌∙◌, ⊎_elim, arith}
+use Rattle.std.proofs.Common.{◌≡◌, ℕ, true, false, cond, not, ◌||◌, eqb, ltb, List, length, sym, ap, ◌∙◌, subst, ⊎_elim, arith}
 use Rattle.std.proofs.lemmas.Bool.{lt-ltb, ltb-true, ltb-false, eqb-true, eqb-false, eq-eqb, ne_eqb, le-ltb, or_from, cond-true, cond-false, cond_both, cases_Bool, both_ways}
 use Rattle.formats.specs.Bytes.{byte_at}
 use Rattle.formats.proofs.Verdicts.{pass, equal, unequal, agree, differ}
@@ -38,6 +38,9 @@ judged bs =
     cond_both (not (eqb (bad_link bs) 0)) 7 0 (Judged bs)
     (λ t. unlinked frame right (λ l. unequal (bad_link bs) 0 t (linked_none bs l)))
     (λ f6. admitted frame right (linked bs (equal (bad_link bs) 0 f6))))))))
+
+pub judged_as : (bs : List ℕ) (k : ℕ) → k ≡ refusal bs → Judged bs k
+judged_as bs k is = subst (Judged bs) (sym is) (judged bs)
 
 -- ---- and on no other
 frame_past : (bs : List ℕ) (n z : ℕ) → Frame bs → n ≡ z → cond (ltb (length bs) 4) 1 (cond (not (eqb (byte_at bs 0) 0x53)) 2 (cond (out_of_range bs) 3 (cond (not (eqb (length bs) (sheet_length bs))) 4 n))) ≡ z

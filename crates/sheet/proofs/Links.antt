@@ -1,11 +1,12 @@
 -- What the links of a sheet say: the test of a chain and its fact, and that no link is wrong exactly if the sheet is linked.
-use Rattle.std.proofs.Common.{◌≡◌, ℕ, zero, suc, ◌+◌, ◌-◌, ◌<◌, ◌≤◌, true, false, eqb, ltb, leb, List, Some, None, Option, sym, refl, ap, ◌∙◌, subst, arith}
+use Rattle.std.proofs.Common.{◌≡◌, ℕ, zero, suc, ◌+◌, ◌-◌, ◌<◌, ◌≤◌, true, false, ◌&&◌, eqb, ltb, leb, List, Some, None, Option, sym, refl, ap, ◌∙◌, subst, arith}
+use Rattle.std.specs.Option.{option_eq}
 use native.Mathlib.Decide.{dec_le}
-use Rattle.std.proofs.lemmas.Bool.{eqb-true, ltb-true, eq-eqb, lt-ltb, ne_eqb, and_parts, and_from, and_left, and_right, le-ltb, or_parts, not-false, cond-true, cond-false, le-leb, lt-leb, or_from, both_ways, not_from_true}
+use Rattle.std.proofs.lemmas.Bool.{eqb-true, ltb-true, eq-eqb, lt-ltb, ne_eqb, and_parts, and_from, and_left, and_right, le-ltb, or_parts, not-false, cond-true, cond-false, le-leb, lt-leb, or_from, not_from_true}
 use Rattle.maps.specs.Graph.{Street, Graph, Lowest, LawfulMap, Placed}
 use Rattle.formats.specs.Scan.{optional}
 use Rattle.formats.proofs.Lowests.{lowest_map, lowest_unique}
-use Rattle.formats.proofs.Scans.{lowest_in_of_all, lowest_in_none, lowest_in_found}
+use Rattle.formats.proofs.Scans.{lowest_in_of_all, lowest_in_none, lowest_in_off}
 use Rattle.sheet.specs.declared.records.Chain.{Chain}
 use Rattle.sheet.specs.declared.records.Chain.TheVariants.{Leaving, Entering}
 use Rattle.sheet.specs.Layout.{junction_count, slot_count, sheet_graph, street_at}
@@ -14,8 +15,21 @@ use Rattle.sheet.specs.Refusal.{wrong_link, wrong_links, bad_link}
 use Rattle.sheet.specs.Laws.{street_none}
 use Rattle.sheet.specs.Meaning.{Linked}
 
+-- ---- a number that stands for none, as an answer
+pub equal_optional : (a b : ℕ) → option_eq eqb (optional a) (optional b) ≡ eqb a b
+equal_optional zero zero = refl
+equal_optional zero (suc b) = sym (ne_eqb 0 (suc b) (λ e. absurd (omega arith)))
+equal_optional (suc a) zero = sym (ne_eqb (suc a) 0 (λ e. absurd (omega arith)))
+equal_optional (suc a) (suc b) = refl
+
+pub equal_some : (a b : ℕ) → option_eq eqb (optional a) (Some b) ≡ (ltb 0 b && eqb a b)
+equal_some zero zero = refl
+equal_some zero (suc b) = sym (and_right (ltb 0 (suc b)) _ (ne_eqb 0 (suc b) (λ e. absurd (omega arith))))
+equal_some (suc a) zero = ne_eqb (suc a) 0 (λ e. absurd (omega arith)) ∙ sym (and_left (ltb 0 0) (eqb (suc a) 0) refl)
+equal_some (suc a) (suc b) = sym (ap (λ t. t && eqb (suc a) (suc b)) (lt-ltb 0 (suc b) (omega arith)))
+
 -- ---- the test of a chain
-pub on_chain_lem : (g : Graph) (c : Chain) (v e : ℕ) → OnChain g c v e → on_chain g c v e ≡ true
+on_chain_lem : (g : Graph) (c : Chain) (v e : ℕ) → OnChain g c v e → on_chain g c v e ≡ true
 on_chain_lem g c v e h = and_from (ltb 0 v) (eqb (end_of c (g.street e)) v) (lt-ltb 0 v h.0) (eq-eqb (end_of c (g.street e)) v h.1)
 
 on_fact : (g : Graph) (c : Chain) (v e : ℕ) → on_chain g c v e ≡ true → OnChain g c v e
@@ -23,11 +37,13 @@ on_fact g c v e h =
     let p = and_parts (ltb 0 v) (eqb (end_of c (g.street e)) v) h in
     (ltb-true 0 v p.0, eqb-true (end_of c (g.street e)) v p.1)
 
-pub off_zero : (g : Graph) (c : Chain) (v e : ℕ) → v ≤ 0 → on_chain g c v e ≡ false
+off_zero : (g : Graph) (c : Chain) (v e : ℕ) → v ≤ 0 → on_chain g c v e ≡ false
 off_zero g c v e h = and_left (ltb 0 v) (eqb (end_of c (g.street e)) v) (le-ltb 0 v h)
 
-pub off_other : (g : Graph) (c : Chain) (v e : ℕ) → (end_of c (g.street e) ≡ v → ⊥) → on_chain g c v e ≡ false
-off_other g c v e h = and_right (ltb 0 v) (eqb (end_of c (g.street e)) v) (ne_eqb (end_of c (g.street e)) v h)
+-- no street is on the chain of no junction
+pub lowest_off : (g : Graph) (c : Chain) (v a : ℕ) → a ≤ g.slots → None ≡ optional v → None ≡ optional (lowest_on g c v a)
+lowest_off g c zero a le e = ap optional (sym (lowest_in_off (on_chain g c 0) a g.slots le (λ k _ _. off_zero g c 0 k (omega arith))))
+lowest_off g c (suc v) a le e = cc
 
 -- an absent street has no end
 end_absent : (c : Chain) (o : Option Street) → o ≡ None → end_of c o ≡ 0
@@ -116,13 +132,5 @@ module _ (bs : List ℕ) (l : Linked bs) where
 
   pub linked_none : bad_link bs ≡ 0
   linked_none =
-      let m = junction_count bs + slot_count bs in
-      elim (dec_le (bad_link bs) 0) [
-        | yes p ↦ omega arith
-        | no q ↦
-            let lo : 0 < bad_link bs = omega arith in
-            let found = lowest_in_found (wrong_links bs) 0 m (omega arith) lo in
-            let f = right_link Leaving (bad_link bs) lo found.0 in
-            let g = right_link Entering (bad_link bs) lo found.0 in
-            absurd (both_ways _ (or_from (wrong_link bs Leaving (bad_link bs)) (wrong_link bs Entering (bad_link bs)) f g) found.1)
-      ]
+      lowest_in_off (wrong_links bs) 0 (junction_count bs + slot_count bs) (omega arith)
+      (λ r lo hi. or_from (wrong_link bs Leaving r) (wrong_link bs Entering r) (right_link Leaving r lo hi) (right_link Entering r lo hi))

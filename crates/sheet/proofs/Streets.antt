@@ -1,9 +1,11 @@
 -- What the slot records of a sheet say: the test of a record and its fact, the lowest one at fault, and the streets.
-use Rattle.std.proofs.Common.{◌≡◌, ℕ, zero, suc, ◌+◌, ◌<◌, Bool, true, false, cond, ◌&&◌, ◌||◌, eqb, ltb, leb, List, Some, None, sym, refl, ap, ◌∙◌, inl, inr, ⊎_elim, add-zero, arith}
+use Rattle.std.proofs.Common.{◌≡◌, ℕ, zero, suc, ◌+◌, ◌<◌, ◌≤◌, Bool, true, false, cond, ◌&&◌, ◌||◌, eqb, ◌==◌, ltb, leb, List, length, take, drop, get_or, get_or-drop, length-drop, Some, None, sym, refl, ap, ◌∙◌, inl, inr, ⊎_elim, add-zero, arith}
+use Rattle.std.specs.List.{list_all}
 use native.Mathlib.Decide.{ℕ_discrete}
 use Rattle.std.proofs.lemmas.Bool.{cases_order, eqb-true, eq-eqb, ne_eqb, le-ltb, le-leb, not-false, not_from_true, not_from_false, and_parts, and_from, and_right, or_from, cond-true, cond-false, cases_Bool, both_ways}
+use Rattle.std.proofs.lemmas.List.Folds.{list_all_more}
 use Rattle.formats.specs.Bytes.{byte_at}
-use Rattle.formats.proofs.Scans.{lowest_in_none, lowest_in_found, lowest_in_before}
+use Rattle.formats.proofs.Scans.{lowest_in_none, lowest_in_found, lowest_in_before, lowest_in_off}
 use Rattle.sheet.specs.Layout.{junction_count, slot_count, slot_record, tail_at, head_at, length_at, filled, sheet_graph}
 use Rattle.sheet.specs.Refusal.{blank, wrong_record, bad_record}
 use Rattle.sheet.specs.Laws.{ends_within, street_none}
@@ -21,6 +23,17 @@ blank_each bs i (suc k) h j l =
 each_blank : (bs : List ℕ) (i k : ℕ) → ((j : ℕ) → j < k → byte_at bs (i + j) ≡ 0) → blank bs i k ≡ true
 each_blank bs i zero h = refl
 each_blank bs i (suc k) h = and_from (blank bs i k) (eqb (byte_at bs (i + k)) 0) (each_blank bs i k (λ j l. h j (omega arith))) (eq-eqb (byte_at bs (i + k)) 0 (h k (omega arith)))
+
+-- the same of the bytes as a slice
+pub blank_taken : (bs : List ℕ) (i k n : ℕ) → i + k ≤ length bs → n ≡ k → list_all (λ b. b == 0) (take n (drop i bs)) ≡ blank bs i k
+blank_taken bs i zero n le e = simp e
+blank_taken bs i (suc k) n le e =
+    let xs = drop i bs in
+    let more : n ≡ k + 1 = omega arith in
+    ap (λ m. list_all (λ b. b == 0) (take m xs)) more
+    ∙ list_all_more (λ b. b == 0) xs k 0 (omega (arith, length-drop i bs))
+    ∙ ap (λ t. t && get_or xs k 0 == 0) (blank_taken bs i k k (omega arith) refl)
+    ∙ ap (λ x. blank bs i k && x == 0) (get_or-drop i bs k 0)
 
 -- a record is right exactly if the test finds no fault
 record_right : (bs : List ℕ) (e : ℕ) → wrong_record bs e ≡ false → Right bs e
@@ -60,7 +73,7 @@ module _ (bs : List ℕ) where
   all_right z e lo hi = record_right bs e (lowest_in_none (wrong_record bs) 0 (slot_count bs) (omega arith) z e lo hi)
 
   pub none_wrong : AllRight bs → bad_record bs ≡ 0
-  none_wrong r = elim (ℕ_discrete (bad_record bs) 0) [ yes z ↦ z | no n ↦ let w = first_wrong n in absurd (w.wrong (r (bad_record bs) w.some w.within)) ]
+  none_wrong r = lowest_in_off (wrong_record bs) 0 (slot_count bs) (omega arith) (λ e lo hi. right_record bs e (r e lo hi))
 
   pub wrong_first : (e : ℕ) → FirstWrong bs e → bad_record bs ≡ e
   wrong_first e w =

@@ -2,7 +2,7 @@
 -- Hex 53; n, one byte; m, two bytes; n junction records of four bytes; m slot records of ten bytes; nothing more.
 -- A junction record is its first leaving and first entering slot, two bytes each.
 -- A slot record is tail and head, one byte each, length, four bytes, next leaving and next entering slot, two bytes each.
-use Rattle.std.specs.Prelude.{ℕ, ◌+◌, ◌-◌, ◌*◌, Bool, cond, not, ◌&&◌, List, Some, None, Option, ◌==◌, nat_le}
+use Rattle.std.specs.Prelude.{ℕ, ◌+◌, ◌-◌, ◌*◌, ◌<◌, ◌≤◌, Bool, cond, not, ◌&&◌, List, Some, None, Option, ◌==◌, nat_le}
 use Rattle.maps.specs.Graph.{Street, Graph}
 use Rattle.formats.specs.Bytes.{byte_at, two_at, four_at}
 
@@ -23,6 +23,10 @@ junction_record v = 4 + 4 * (v - 1)
 
 abbrev pub slot_record : List ℕ → ℕ → ℕ
 slot_record bs e = 4 + 4 * junction_count bs + 10 * (e - 1)
+
+-- there is a slot record e
+abbrev pub HasRecord : List ℕ → ℕ → Type 0
+HasRecord bs e = (0 < e) × (e ≤ slot_count bs)
 
 -- the fields of slot record e that say its street
 abbrev pub tail_at : List ℕ → ℕ → ℕ

@@ -8,20 +8,17 @@
 ghost use Rattle.std.specs.Prelude.{◌≡◌, true, false, is_ok};
 ghost use Rattle.maps.specs.Graph.{Lowest};
 ghost use Rattle.formats.specs.Faults.{answered};
-ghost use Rattle.formats.specs.Scan.{optional};
 ghost use Rattle.sheet.specs.Layout.{street_at, sheet_graph};
 ghost use Rattle.sheet.specs.Chains.{end_of, OnChain};
 ghost use Rattle.sheet.specs.Refusal.{refusal, Sound};
 ghost use Rattle.sheet.specs.Laws.{sheet_lawful};
 ghost use Rattle.sheet.specs.Meaning.{Judged, RefusalsMean, Says};
 
-mod checks;
 pub mod records;
 
-use checks::{first_bad_link, first_bad_record};
-use formats::OpenFault;
+use formats::{MapFile, OpenFault};
 use maps::{Map, TwoWay};
-use records::{Chain, first_link, next_link, read_two, slot_count, street_at, tail_at};
+use records::{Chain, Records};
 
 /// A map over the bytes of a sheet.
 #[derive(Clone, Copy)]
@@ -43,35 +40,23 @@ pub fn least_sheet<'a>() -> Sheet<'a>
 fn check(bytes: &[u8]) -> Result<(), OpenFault>
     ensures { answered result ≡ refusal bytes.now }
 {
-    if bytes.len() < 4 {
-        return Err(OpenFault::Short);
-    }
-    if bytes[0] != 0x53 {
-        return Err(OpenFault::FirstByte);
-    }
-    let n = bytes[1] as usize;
-    let m = slot_count(bytes);
-    if n == 0 || n > 128 || m > 512 {
-        return Err(OpenFault::Range);
-    }
-    if bytes.len() != 4 + 4 * n + 10 * m {
-        return Err(OpenFault::Size);
-    }
-    let e = first_bad_record(bytes);
-    if e != 0 {
-        return if tail_at(bytes, e) == 0 {
+    let records = Records::frame(bytes)?;
+    if let Some(e) = records.first_bad_record() {
+        return if records.tail(e) == 0 {
             Err(OpenFault::NotEmpty)
         } else {
             Err(OpenFault::Ends)
         };
     }
-    if first_bad_link(bytes) != 0 {
+    if records.first_bad_link().is_some() {
         return Err(OpenFault::Link);
     }
     Ok(())
 }
 
+// Beside `MapFile::open`, since its contract says in the layout's own words what is admitted.
 /// Fills the place with the sheet that the bytes hold, or answers why they hold none.
+#[tactic(auto, using(crate::proofs::Judging::judged_as))]
 pub fn open_sheet<'a>(bytes: &'a [u8], place: &mut Sheet<'a>) -> Result<(), OpenFault>
     ensures number { answered result ≡ refusal bytes.now }
     ensures judged { Judged bytes.now (answered result) }
@@ -79,42 +64,40 @@ pub fn open_sheet<'a>(bytes: &'a [u8], place: &mut Sheet<'a>) -> Result<(), Open
     ensures says { is_ok result ≡ true → Says bytes.now (sheet_graph place.new.bytes.now) }
     ensures kept { is_ok result ≡ false → place.new ≡ place.old }
 {
-    match check(bytes) {
-        Ok(()) => {
-            *place = Sheet { bytes };
-            Ok(())
+    check(bytes)?;
+    *place = Sheet { bytes };
+    Ok(())
+}
+
+impl<'a> Sheet<'a> {
+    // The records of the sheet.
+    fn records(&self) -> Records<'a>
+        ensures { result.bytes ≡ self.now.bytes }
+    {
+        Records { bytes: self.bytes }
+    }
+
+    // The first street on the chain of junction v.
+    fn first_on(&self, chain: Chain, v: u16) -> Option<u16>
+        ensures { Lowest (OnChain (sheet_graph self.now.bytes.now) chain v) 0 result }
+    {
+        let records = self.records();
+        if v == 0 || v > records.junction_count() {
+            return None;
         }
-        Err(fault) => Err(fault),
+        records.first_link(chain, v)
     }
-}
 
-// A link as an answer: 0 stands for none.
-fn some_link(link: u16) -> Option<u16>
-    ensures { result ≡ optional link }
-{
-    if link == 0 { None } else { Some(link) }
-}
-
-// The first street on the chain of junction v.
-fn first_on(bytes: &[u8], chain: Chain, v: u16) -> Option<u16>
-    requires { Sound bytes.now }
-    ensures { Lowest (OnChain (sheet_graph bytes.now) chain v) 0 result }
-{
-    if v == 0 || v > bytes[1] as u16 {
-        return None;
+    // The street after e on its chain.
+    fn next_on(&self, chain: Chain, e: u16) -> Option<u16>
+        ensures { Lowest (OnChain (sheet_graph self.now.bytes.now) chain (end_of chain (street_at self.now.bytes.now e))) e result }
+    {
+        let records = self.records();
+        if e == 0 || e > records.slot_count() {
+            return None;
+        }
+        records.next_link(chain, e)
     }
-    some_link(first_link(bytes, chain, v as usize))
-}
-
-// The street after e on its chain.
-fn next_on(bytes: &[u8], chain: Chain, e: u16) -> Option<u16>
-    requires { Sound bytes.now }
-    ensures { Lowest (OnChain (sheet_graph bytes.now) chain (end_of chain (street_at bytes.now e))) e result }
-{
-    if e == 0 || e as usize > slot_count(bytes) {
-        return None;
-    }
-    some_link(next_link(bytes, chain, e as usize))
 }
 
 impl<'a> Map for Sheet<'a> {
@@ -123,33 +106,47 @@ impl<'a> Map for Sheet<'a> {
     ghost lawful = { λ s. sheet_lawful s.bytes.now s.sound };
 
     fn junctions(&self) -> u16 {
-        self.bytes[1] as u16
+        self.records().junction_count()
     }
 
     fn slots(&self) -> u16 {
-        read_two(self.bytes, 2)
+        self.records().slot_count()
     }
 
     fn slot(&self, e: u16) -> Option<(u16, u16, u32)> {
-        street_at(self.bytes, e as usize)
+        self.records().street(e)
     }
 
     fn first_leaving(&self, v: u16) -> Option<u16> {
-        first_on(self.bytes, Chain::Leaving, v)
+        self.first_on(Chain::Leaving, v)
     }
 
     fn next_leaving(&self, e: u16) -> Option<u16> {
-        next_on(self.bytes, Chain::Leaving, e)
+        self.next_on(Chain::Leaving, e)
     }
 }
 
 impl<'a> TwoWay for Sheet<'a> {
     fn first_entering(&self, v: u16) -> Option<u16> {
-        first_on(self.bytes, Chain::Entering, v)
+        self.first_on(Chain::Entering, v)
     }
 
     fn next_entering(&self, e: u16) -> Option<u16> {
-        next_on(self.bytes, Chain::Entering, e)
+        self.next_on(Chain::Entering, e)
+    }
+}
+
+impl<'a> MapFile<'a> for Sheet<'a> {
+    ghost refusal = { refusal };
+
+    ghost held = { sheet_graph };
+
+    fn least() -> Self {
+        least_sheet()
+    }
+
+    fn open(bytes: &'a [u8], place: &mut Self) -> Result<(), OpenFault> {
+        open_sheet(bytes, place)
     }
 }
 

@@ -9,13 +9,15 @@
 // Not promised here: that the tables fit a map. The crates above say what each call leaves in them.
 #![tactic(auto)]
 
-ghost use Rattle.std.specs.Prelude.{◌≡◌, ◌-◌, ◌≤◌, false, length, if◌then◌else◌, None, nat_le};
+ghost use Rattle.std.specs.Prelude.{◌≡◌, ◌-◌, false, length, if◌then◌else◌, None, nat_le};
 ghost use Rattle.std.specs.List.{slice_get};
 ghost use Rattle.asks.specs.Handed.{is_position};
 ghost use Rattle.calls.specs.Moments.{created};
 ghost use Rattle.tables.specs.Tables.{transit_of, moment_of, tree_in, list_of};
 
+use arrayvec::ArrayVec;
 use legs::LegTable;
+use std::array;
 use trees::BoundedTree;
 
 mod rows;
@@ -30,20 +32,20 @@ pub struct TreeRecord {
 }
 
 /// The list positions, rising, of the trees that hold one street.
-#[derive(Clone, Copy)]
+#[derive(Default, Drop)]
 pub struct Holders {
-    pub positions: [u16; 16],
-    pub count: usize,
+    pub positions: ArrayVec<u16, 16>,
 }
 
 /// What an oracle keeps beside its map: closure marks, transit list and tally; and, once it is built, the trees with their counts,
-/// the legs between transit nodes, and for each slot the trees that hold it.
+/// the legs between transit nodes, and for each slot the trees that hold it. The tree of a transit node stands at its place in the list,
+/// and past the list's end none is read.
 #[derive(Drop)]
 pub struct Tables {
     pub closed: [bool; 512],
-    pub transit: [u16; 16],
-    pub named: usize,
+    pub transit: ArrayVec<u16, 16>,
     pub tally: u16,
+    // An array made by repetition, and no short list: its entries are all the memory that trees ever need.
     pub trees: [TreeRecord; 16],
     pub legs: LegTable,
     pub holders: [Holders; 512],
@@ -54,37 +56,26 @@ impl Holders {
     pub fn nth_position(&self, k: u16) -> Option<u16>
         ensures { result ≡ (if nat_le 1 k then slice_get (list_of self.now) (k - 1) else None) }
     {
-        if k == 0 {
-            return None;
-        }
-        let at = k as usize - 1;
-        if at >= self.count || at >= 16 {
-            return None;
-        }
-        Some(self.positions[at])
+        let at = usize::from(k.checked_sub(1)?);
+        self.positions.as_slice().get(at).copied()
     }
 }
 
 impl Tables {
     /// The tables of a new plan: nothing named, nothing closed, tally 0.
     pub fn new() -> Tables
-        ensures moment { moment_of false result ≡ created }
-        ensures few { result.named ≤ 16 }
+        ensures { moment_of false result ≡ created }
     {
         Tables {
             closed: [false; 512],
-            transit: [0; 16],
-            named: 0,
+            transit: ArrayVec::new(),
             tally: 0,
             trees: [TreeRecord {
                 tree: BoundedTree::empty(),
                 closed: 0,
             }; 16],
             legs: LegTable::new(0),
-            holders: [Holders {
-                positions: [0; 16],
-                count: 0,
-            }; 512],
+            holders: array::from_fn(|_| Holders::default()),
         }
     }
 
@@ -92,9 +83,8 @@ impl Tables {
     pub fn tree_entry(&self, position: u16, v: u16) -> Option<(u16, u64)>
         ensures { result ≡ (if is_position (length (transit_of self.now)) position then tree_in self.now.trees position v else None) }
     {
-        if position == 0 || position as usize > self.named.min(16) {
-            return None;
-        }
-        self.trees[position as usize - 1].tree.get(v)
+        let at = usize::from(position.checked_sub(1)?);
+        let record = self.trees[..self.transit.len()].get(at)?;
+        record.tree.get(v)
     }
 }

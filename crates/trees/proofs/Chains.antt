@@ -51,13 +51,13 @@ abbrev pub put_up_to : ℕ → Option ℕ → ℕ
 put_up_to m None = m
 put_up_to m (Some e) = e - 1
 
-module _ (K : Kind) (G : Graph) (w : LawfulMap G) (F : ℕ → Bool) (T : Table) (v l : ℕ) (cs : List Candidate) where
-  -- the streets that are put
-  abbrev pub to_put : Streets
-  to_put = unsettled_heads T (without F G.street)
+-- the streets outside the closed ones F whose head is unsettled
+abbrev pub to_put : Graph → (ℕ → Bool) → Table → Streets
+to_put G F T = unsettled_heads T (without F G.street)
 
+module _ (K : Kind) (G : Graph) (w : LawfulMap G) (F : ℕ → Bool) (T : Table) (v l : ℕ) (cs : List Candidate) where
   -- a street that does not leave v
-  not_here : (k : ℕ) → (Leaves G v k → ⊥) → leaving v to_put k ≡ None
+  not_here : (k : ℕ) → (Leaves G v k → ⊥) → leaving v (to_put G F T) k ≡ None
   not_here k n = go (F k) (G.street k) refl
     where
       at : (b : Bool) (a : Street) → G.street k ≡ Some a → if_leaves v (omit_if b (Some a)) ≡ None
@@ -72,7 +72,7 @@ module _ (K : Kind) (G : Graph) (w : LawfulMap G) (F : ℕ → Bool) (T : Table)
       go false (Some a) p = at (is_some (T a.1)) a p
 
   -- and one that does
-  here_is : (k : ℕ) → Leaves G v k → leaving v to_put k ≡ to_put k
+  here_is : (k : ℕ) → Leaves G v k → leaving v (to_put G F T) k ≡ (to_put G F T) k
   here_is k n = go (F k) (G.street k) refl
     where
       at : (b : Bool) (a : Street) → G.street k ≡ Some a → if_leaves v (omit_if b (Some a)) ≡ omit_if b (Some a)
@@ -85,29 +85,29 @@ module _ (K : Kind) (G : Graph) (w : LawfulMap G) (F : ℕ → Bool) (T : Table)
       go false (Some a) p = at (is_some (T a.1)) a p
 
   pub chain_next : (a : ℕ) → a ≤ G.slots → (r : Option ℕ) → Lowest (Leaves G v) a r
-      → with_streets K (leaving v to_put) l (put_up_to G.slots r) cs ≡ with_streets K (leaving v to_put) l a cs
-  chain_next a le None h = with_skip K l (leaving v to_put) cs a G.slots le (λ k lo hi. not_here k (h.gap k lo tt))
+      → with_streets K (leaving v (to_put G F T)) l (put_up_to G.slots r) cs ≡ with_streets K (leaving v (to_put G F T)) l a cs
+  chain_next a le None h = with_skip K l (leaving v (to_put G F T)) cs a G.slots le (λ k lo hi. not_here k (h.gap k lo tt))
   chain_next a le (Some e) h =
       let p = h.above in
-      with_skip K l (leaving v to_put) cs a (e - 1) (omega arith) (λ k lo hi. not_here k (h.gap k lo (omega arith)))
+      with_skip K l (leaving v (to_put G F T)) cs a (e - 1) (omega arith) (λ k lo hi. not_here k (h.gap k lo (omega arith)))
 
   module _ (e : ℕ) (here : Leaves G v e) where
-    one : with_streets K (leaving v to_put) l e cs ≡ with_street K l e (to_put e) (with_streets K (leaving v to_put) l (e - 1) cs)
-    one = with_at K l (leaving v to_put) cs e (leaves_within G w v e here).0 ∙ ap (λ o. with_street K l e o (with_streets K (leaving v to_put) l (e - 1) cs)) (here_is e here)
+    one : with_streets K (leaving v (to_put G F T)) l e cs ≡ with_street K l e ((to_put G F T) e) (with_streets K (leaving v (to_put G F T)) l (e - 1) cs)
+    one = with_at K l (leaving v (to_put G F T)) cs e (leaves_within G w v e here).0 ∙ ap (λ o. with_street K l e o (with_streets K (leaving v (to_put G F T)) l (e - 1) cs)) (here_is e here)
 
     -- there is room for the next
-    pub chain_fits : (ts : List Candidate) → IsPermutation (with_streets K (leaving v to_put) l (e - 1) cs) ts
-        → length (with_street K l e (to_put e) ts) ≤ length (with_streets K (leaving v to_put) l G.slots cs)
+    pub chain_fits : (ts : List Candidate) → IsPermutation (with_streets K (leaving v (to_put G F T)) l (e - 1) cs) ts
+        → length (with_street K l e ((to_put G F T) e) ts) ≤ length (with_streets K (leaving v (to_put G F T)) l G.slots cs)
     chain_fits ts s =
-        let n = length_permutation _ _ (with_shuffled K l e (to_put e) _ ts s) in
+        let n = length_permutation _ _ (with_shuffled K l e ((to_put G F T) e) _ ts s) in
         let o = ap length one in
-        let g = with_grows K l (leaving v to_put) cs e G.slots (leaves_within G w v e here).1 in
+        let g = with_grows K l (leaving v (to_put G F T)) cs e G.slots (leaves_within G w v e here).1 in
         omega arith
 
     -- and with it the chain goes on
     pub chain_more : (r : Option ℕ) → Lowest (Leaves G v) e r → (ts us : List Candidate)
-        → IsPermutation (with_streets K (leaving v to_put) l (e - 1) cs) ts → IsPermutation (with_street K l e (to_put e) ts) us
-        → IsPermutation (with_streets K (leaving v to_put) l (put_up_to G.slots r) cs) us
+        → IsPermutation (with_streets K (leaving v (to_put G F T)) l (e - 1) cs) ts → IsPermutation (with_street K l e ((to_put G F T) e) ts) us
+        → IsPermutation (with_streets K (leaving v (to_put G F T)) l (put_up_to G.slots r) cs) us
     chain_more r low ts us s t =
         let eq = chain_next e (leaves_within G w v e here).1 r low ∙ one in
-        subst (λ x. IsPermutation x us) (sym eq) (IsPermutation-trans _ _ _ (with_shuffled K l e (to_put e) _ ts s) t)
+        subst (λ x. IsPermutation x us) (sym eq) (IsPermutation-trans _ _ _ (with_shuffled K l e ((to_put G F T) e) _ ts s) t)

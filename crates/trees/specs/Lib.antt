@@ -2,4 +2,5 @@ pub mod Marks
 pub mod Trees
 pub mod Runs
 pub mod Limited
+pub mod Kept
 pub mod Candidates

@@ -26,9 +26,7 @@ mod run;
 /// Slot and length of each settled junction, by its number less one.
 #[derive(Clone, Copy)]
 pub struct BoundedTree {
-    settled: [bool; 128],
-    slots: [u16; 128],
-    lengths: [u64; 128],
+    entries: [Option<(u16, u64)>; 128],
 }
 
 impl BoundedTree {
@@ -37,9 +35,7 @@ impl BoundedTree {
         ensures { table_of result ≡ none_settled }
     {
         BoundedTree {
-            settled: [false; 128],
-            slots: [0; 128],
-            lengths: [0; 128],
+            entries: [None; 128],
         }
     }
 
@@ -47,32 +43,8 @@ impl BoundedTree {
     pub fn get(&self, v: u16) -> Option<(u16, u64)>
         ensures { result ≡ table_of self.now v }
     {
-        if self.is_settled(v) {
-            Some(self.entry_of(v))
-        } else {
-            None
-        }
-    }
-
-    // Whether junction v is settled.
-    fn is_settled(&self, v: u16) -> bool
-        ensures value { result ≡ is_some (table_of self.now v) }
-        ensures absent { result ≡ false → table_of self.now v ≡ None }
-    {
-        if v == 0 || v > 128 {
-            false
-        } else {
-            self.settled[v as usize - 1]
-        }
-    }
-
-    // Slot and length of a settled junction.
-    fn entry_of(&self, v: u16) -> (u16, u64)
-        requires { is_some (table_of self.now v) ≡ true }
-        ensures { table_of self.now v ≡ Some result }
-    {
-        let i = v as usize - 1;
-        (self.slots[i], self.lengths[i])
+        let i = usize::from(v).checked_sub(1)?;
+        self.entries.get(i).copied().flatten()
     }
 
     // Settles junction v.
@@ -80,10 +52,7 @@ impl BoundedTree {
         requires { (0 < v) × (v ≤ 128) }
         ensures { table_of self.new ≡ settled_by (table_of self.old) (Some (v, slot, length)) }
     {
-        let i = v as usize - 1;
-        self.settled[i] = true;
-        self.slots[i] = slot;
-        self.lengths[i] = length;
+        self.entries[usize::from(v) - 1] = Some((slot, length));
     }
 }
 
@@ -91,24 +60,18 @@ impl BoundedTree {
 pub fn is_closed(closed: &[bool; 512], e: u16) -> bool
     ensures { result ≡ closed_in closed.now e }
 {
-    if e == 0 || e > 512 {
-        false
-    } else {
-        closed[e as usize - 1]
-    }
+    (1..=512).contains(&e) && closed[usize::from(e) - 1]
 }
 
 /// Whether v stands in the list.
+#[tactic(auto, using(crate::proofs::Tables::member_any))]
 pub fn is_listed(list: &[u16], v: u16) -> bool
     ensures { result ≡ member list.now v }
 {
-    for x in list {
-        if *x == v {
-            return true;
-        }
-    }
-    false
+    list.contains(&v)
 }
+
+// Map, list and root stay parameters: callers go over many roots of one map and list.
 
 /// The bounded run from a root along the streets: past no other junction of the transit list and over no closed
 /// street. A root off the map settles nothing.
@@ -122,14 +85,12 @@ pub fn bounded_run<M: Map, K: Zeroed>(
     ensures on_map { OnMap (M.Map.graph map.now) root → table_of result ≡ bounded_run K.Length.kind (M.Map.graph map.now) transit.now (closed_in closed.now) root }
 {
     if root > 0 && root <= map.junctions() {
-        run_within::<M, K>(
-            map,
-            &Limits {
-                transit,
-                closed,
-                root,
-            },
-        )
+        let limits = Limits {
+            transit,
+            closed,
+            root,
+        };
+        run_within::<M, K>(map, limits)
     } else {
         BoundedTree::empty()
     }

@@ -1,6 +1,5 @@
-use Rattle.std.proofs.Common.{◌≡◌, ℕ, eqb, [], ◌∷◌, length, Some, None, refl, ap, ◌∙◌, subst, ap₂, arith}
+use Rattle.std.proofs.Common.{eqb, [], ◌∷◌, length, Some, ap, ◌∙◌, arith}
 use Rattle.std.specs.Map.{update}
-use Rattle.std.specs.List.Sorted.{IsPermutation}
 use Rattle.std.proofs.ByRecursion.{all_shuffled}
 use Rattle.queue.specs.Queues.{held}
 use Rattle.entries.specs.Records.{NodeAhead}
@@ -8,58 +7,45 @@ use Rattle.walks.specs.Streets.{empty_set}
 use Rattle.walks.specs.Legs.{grid}
 use Rattle.walks.proofs.OneAnswer.{answer_leads}
 use Rattle.legs.specs.Tables.{leg_of, length_at}
-use Rattle.legs.specs.Searches.{Lengths, open_legs, adding_all, Searched}
-use Rattle.legs.proofs.Spreads.{unreached_le}
-use Rattle.legs.proofs.Searching.{table_legs, searched_first, searched_shuffled, searched_end}
+use Rattle.legs.specs.Searches.{Searched}
+use Rattle.legs.proofs.Spreads.{unreached_le, goes_on_same}
+use Rattle.legs.proofs.Turns.{searched_first, searched_shuffled, searched_end}
 use Rattle.legs.proofs.search.Goals as goal
 
-pub reach-requires : goal.reach-requires
-reach-requires g c =
-    let t = c.args.legs.now in
-    let few = t.few in
-    let e = ap length c.new-queue.ensures.held in
-    let r = c.new-queue.ensures.room in
-    record {
-      node = omega arith;
-      ordered = c.new-queue.ensures.ordered;
-      fits = λ L is. let u = unreached_le L t.count in omega arith;
-    }
+pub reach-requires-clause-fits : goal.reach-requires-clause-fits
+reach-requires-clause-fits g c =
+    let few = c.args.legs.now.few in
+    let e = ap length c.new.ensures.held in
+    let r = c.new.ensures.room in
+    let u = unreached_le (update eqb (length_at c.none.result) 0 (Some c.zero_of.result)) c.args.legs.now.count in
+    omega arith
 
 pub loop-best-init : goal.loop-best-init
 loop-best-init g c =
-    let K = g.K.Length.kind in
-    let t = c.args.legs.now in
+    let s = c.reach.new.self in
     let told = c.reach.ensures in
-    let L = length_at c.reach.new.reached in
-    let d = open_legs L (leg_of t 0) in
-    let ts = held c.reach.new.queue in
-    let z : c.code-zero.result ≡ K.zero = c.code-zero.ensures ∙ g.met.K.Zeroed.fixed _ in
-    let s : IsPermutation (adding_all K d K.zero t.count []) ts =
-    subst (λ x. IsPermutation (adding_all K d x t.count []) ts) z (subst (λ x. IsPermutation (adding_all K d c.code-zero.result t.count x) ts) c.new-queue.ensures.held told.held) in
-    let e : L ≡ update eqb (λ _. None) 0 (Some K.zero) =
-    told.lengths ∙ ap₂ (λ (M : Lengths) (x : ℕ). update eqb M 0 (Some x)) c.none-reached.ensures z in
-    (told.ordered, told.room ∙ c.new-queue.ensures.room, refl, searched_first K g.met.K.Length.lawful (leg_of t) t.count (table_legs t) L ts e s)
-
-pub visit-requires : goal.visit-requires
-visit-requires g c =
-    let t = c.args.legs.now in
-    let i = c.loop-best.invariant in
-    let rem = c.in-Some.ensures.cases in
-    let hs = held c.loop-best.queue in
-    let ts = c.in-Some.best ∷ held c.take.new.self in
-    let r = c.take.ensures.room in
-    let j = i.1 in
+    let held = rw told.goes_on.legs at told.held in
     record {
-      ordered = c.take.ensures.ordered;
-      fits = omega arith;
-      searched = searched_shuffled g.K.Length.kind g.met.K.Length.lawful (leg_of t) t.count (table_legs t) (length_at c.loop-best.reached) hs ts rem.shuffled i.3;
-      best = (all_shuffled (NodeAhead g.K.Length.kind c.in-Some.best) hs ts rem.shuffled rem.best).1;
+      goes_on = goes_on_same g.K.Length.kind s told.goes_on.ordered;
+      room = told.goes_on.room ∙ c.new.ensures.room;
+      searched = rw told.goes_on.legs (searched_first g.K.Length.kind g.met.K.Length.lawful c.args.legs.now c.none.ensures c.zero_of.ensures c.new.ensures.held told.lengths held);
     }
+
+pub visit-requires-clause-searched : goal.visit-requires-clause-searched
+visit-requires-clause-searched g c =
+    searched_shuffled g.K.Length.kind g.met.K.Length.lawful c.loop-best.run.legs.now (c.in-Some.best ∷ held c.take.new.self) c.in-Some.ensures.cases.shuffled c.loop-best.invariant.searched
+
+pub visit-requires-clause-best : goal.visit-requires-clause-best
+visit-requires-clause-best g c =
+    let rem = c.in-Some.ensures.cases in
+    (all_shuffled (NodeAhead g.K.Length.kind c.in-Some.best) (held c.loop-best.run.queue) (c.in-Some.best ∷ held c.take.new.self) rem.shuffled rem.best).1
 
 pub returns : goal.returns
 returns g c =
     let t = c.args.legs.now in
-    let L = length_at c.loop-best.reached in
-    let best = searched_end g.K.Length.kind g.met.K.Length.lawful (leg_of t) t.count (table_legs t) L
-    (subst (Searched g.K.Length.kind (leg_of t) t.count L) c.in_default.ensures.cases.none c.loop-best.invariant.3) in
+    let i = c.loop-best.invariant in
+    let legs = i.goes_on.legs ∙ c.reach.ensures.goes_on.legs in
+    let L = length_at c.loop-best.run.reached in
+    let ended : Searched g.K.Length.kind (leg_of t) t.count L [] = rw (← c.in_default.ensures.cases.none, ← legs) i.searched in
+    let best = searched_end g.K.Length.kind g.met.K.Length.lawful t ended in
     record { best = best; reached = λ v. answer_leads g.K.Length.kind (grid (leg_of t)) empty_set 0 v (L v) (best v) }

@@ -1,4 +1,3 @@
-use Rattle.calls.specs.Lives.{front}
 use Rattle.calls.proofs.Twice.{promise_kept}
 use Rattle.lives.proofs.live_twice.Goals as goal
 

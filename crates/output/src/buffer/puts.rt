@@ -1,74 +1,37 @@
 // Appending the line of an answer or of a refusal.
-ghost use Rattle.std.specs.Prelude.{◌≡◌, ◌+◌, ◌≤◌, ◌++◌, length};
+ghost use Rattle.std.specs.Prelude.{◌+◌, ◌≤◌, ◌++◌, codes, decimal, length};
 ghost use Rattle.commands.specs.Outcome.{printed_digits};
-ghost use Rattle.output.specs.Room.{room, line_room};
 ghost use Rattle.output.specs.Printed.{printed};
 ghost use Rattle.output.specs.Written.{answer_line, fault_line, refusal_line, Put};
 
 use crate::buffer::Output;
 use calls::Answer;
 use commands::LineFault;
+use itoa::{Buffer, Integer};
 
 impl Output {
-    // Appends `refused LINE NUMBER`, for which there is room.
-    fn push_refusal(&mut self, line: usize, number: u8)
-        requires { length (printed self.old) + line_room ≤ room }
-        ensures text { printed self.new ≡ printed self.old ++ refusal_line line number }
-        ensures short { length (printed self.new) ≤ length (printed self.old) + line_room }
-    {
-        self.push_pair(b"refused ", line as u64, b" ", number as u64);
-    }
-
-    // Appends the line of an answer, for which there is room.
-    fn push_answer(&mut self, line: usize, answer: Answer)
-        requires { length (printed self.old) + line_room ≤ room }
-        ensures text { printed self.new ≡ printed self.old ++ answer_line line answer }
-        ensures short { length (printed self.new) ≤ length (printed self.old) + line_room }
-    {
-        match answer {
-            Answer::Done => self.push_bytes(b"ok\n"),
-            Answer::Length(length, redone) => {
-                let count = redone as u64;
-                self.push_pair(b"length ", length, b" redone ", count);
-            }
-            Answer::NoWay(redone) => self.push_line(b"no way redone ", redone as u64),
-            Answer::Count(count) => self.push_line(b"tally ", count as u64),
-            Answer::Refused(fault) => self.push_refusal(line, fault.number()),
-        }
-    }
-
-    // Appends the line of a command line that is no call, for which there is room.
-    fn push_fault(&mut self, line: usize, fault: LineFault<'_>)
-        requires { length (printed self.old) + (line_room + length (printed_digits fault)) ≤ room }
-        ensures text { printed self.new ≡ printed self.old ++ fault_line line fault.entry }
-        ensures short { length (printed self.new) ≤ length (printed self.old) + (line_room + length (printed_digits fault.entry)) }
-    {
-        match fault {
-            LineFault::NoForm => self.push_refusal(line, 51),
-            LineFault::TooLarge(digits) => self.push_copied(
-                b"refused ",
-                line as u64,
-                b" 52 ",
-                digits,
-            ),
-        }
-    }
-
     // Appends `refused LINE NUMBER`.
     pub fn put_refusal(&mut self, line: usize, number: u8)
         ensures { Put (printed self.old) (printed self.new) 0 (refusal_line line number) }
     {
-        if self.has_room(0) {
-            self.push_refusal(line, number);
-        }
+        let line = line as u64;
+        let number = u64::from(number);
+        self.put_pair(b"refused ", line, b" ", number);
     }
 
     // Appends the line of the answer to the call of a command line.
     pub fn put_answer(&mut self, line: usize, answer: Answer)
         ensures { Put (printed self.old) (printed self.new) 0 (answer_line line answer) }
     {
-        if self.has_room(0) {
-            self.push_answer(line, answer);
+        match answer {
+            Answer::Done => self.put_line(0, &[b"ok\n"]),
+            Answer::Length(length, redone) => {
+                let count = u64::from(redone);
+                self.put_pair(b"length ", length, b" redone ", count);
+            }
+            Answer::NoWay(redone) => self.put_count(b"no way redone ", redone),
+            Answer::Count(count) => self.put_count(b"tally ", count),
+            Answer::Refused(fault) => self.put_refusal(line, fault.number()),
         }
     }
 
@@ -76,12 +39,40 @@ impl Output {
     pub fn put_fault(&mut self, line: usize, fault: LineFault<'_>)
         ensures { Put (printed self.old) (printed self.new) (length (printed_digits fault.entry)) (fault_line line fault.entry) }
     {
-        let digits = match fault {
-            LineFault::NoForm => 0,
-            LineFault::TooLarge(digits) => digits.len(),
-        };
-        if self.has_room(digits) {
-            self.push_fault(line, fault);
+        match fault {
+            LineFault::NoForm => self.put_refusal(line, fault.number()),
+            LineFault::TooLarge(digits) => {
+                let mut place = Buffer::new();
+                let mut reason = Buffer::new();
+                let place = place.format(line).as_bytes();
+                let reason = reason.format(fault.number()).as_bytes();
+                self.put_line(
+                    digits.len(),
+                    &[b"refused ", place, b" ", reason, b" ", digits, b"\n"],
+                );
+            }
         }
+    }
+
+    // Appends words and a number, twice.
+    fn put_pair(&mut self, words: &[u8], first: u64, more: &[u8], second: u64)
+        requires { length words.now + length more.now ≤ 15 }
+        ensures { Put (printed self.old) (printed self.new) 0 (words.now ++ (decimal first ++ (more.now ++ (decimal second ++ codes "\n")))) }
+    {
+        let mut one = Buffer::new();
+        let mut two = Buffer::new();
+        let one = one.format(first).as_bytes();
+        let two = two.format(second).as_bytes();
+        self.put_line(0, &[words, one, more, two, b"\n"]);
+    }
+
+    // Appends words and a number.
+    fn put_count<N: Integer>(&mut self, words: &[u8], number: N)
+        requires { length words.now ≤ 15 }
+        ensures { Put (printed self.old) (printed self.new) 0 (words.now ++ (N.text number ++ codes "\n")) }
+    {
+        let mut count = Buffer::new();
+        let count = count.format(number).as_bytes();
+        self.put_line(0, &[words, count, b"\n"]);
     }
 }

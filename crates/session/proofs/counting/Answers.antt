@@ -1,8 +1,9 @@
-use Rattle.std.proofs.Common.{sym, arith, length-take, take_all}
+use Rattle.std.proofs.Common.{◌≡◌, min, length, take, ap, ◌∙◌, arith}
+use Rattle.std.proofs.lemmas.List.{take_min}
 use Rattle.session.proofs.counting.Goals as goal
 
-pub slice_bounds-result-end : goal.slice_bounds-result-end
-slice_bounds-result-end c = simp length-take (omega (arith, c.if-map-gt-LONGEST_MAP.true))
-
-pub returns-else-map-gt-LONGEST_MAP : goal.returns-else-map-gt-LONGEST_MAP
-returns-else-map-gt-LONGEST_MAP c = sym (take_all 5637 c.args.map.now (omega (arith, c.if-map-gt-LONGEST_MAP.false)))
+pub returns : goal.returns
+returns c =
+    let map = c.args.map.now in
+    let least : c.min.result ≡ min 5637 (length map) = omega (arith, c.min.ensures) in
+    ap (λ n. take n map) least ∙ take_min 5637 map

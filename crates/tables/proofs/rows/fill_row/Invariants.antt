@@ -1,4 +1,4 @@
-use Rattle.std.proofs.Common.{◌≡◌, ℕ}
+use Rattle.std.proofs.Common.{◌≡◌}
 use Rattle.legs.specs.Tables.{positions_of, leg_of}
 use Rattle.trees.specs.Trees.{table_of}
 use Rattle.tables.proofs.Filling.{with_row_up_to}
@@ -7,4 +7,4 @@ use Rattle.tables.proofs.rows.fill_row.Given as goal
 abbrev pub invariant-loop-j : goal.invariant-loop-j
 invariant-loop-j l =
     (positions_of l.legs ≡ positions_of l.initial.legs)
-    × ((i j : ℕ) → leg_of l.legs i j ≡ with_row_up_to l.j (positions_of l.initial.legs) l.transit l.position (table_of l.tree) (leg_of l.initial.legs) i j)
+    × (leg_of l.legs ≡ with_row_up_to l.j (positions_of l.initial.legs) l.transit l.position (table_of l.tree) (leg_of l.initial.legs))

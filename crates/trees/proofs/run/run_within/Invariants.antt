@@ -1,20 +1,9 @@
-use Rattle.std.proofs.Common.{◌≡◌, ◌+◌, length}
-use Rattle.queue.specs.Queues.{held, room, Ordered}
-use Rattle.entries.specs.Records.{CandidateAhead}
-use Rattle.trees.specs.Trees.{table_of}
-use Rattle.trees.specs.Limited.{streets_within}
-use Rattle.trees.specs.Candidates.{unsettled_tails, Underway}
+use Rattle.queue.specs.Queues.{held}
+use Rattle.trees.specs.Kept.{RunKept, RunUnderway, work_left}
 use Rattle.trees.proofs.run.run_within.Given as goal
 
 abbrev pub invariant-loop-best : goal.invariant-loop-best
-invariant-loop-best g l =
-    let G = g.M.Map.graph l.map in
-    Ordered (CandidateAhead g.K.Length.kind) l.queue
-    × (room l.queue ≡ 512)
-    × (l.queue.places.ghost_name ≡ l.initial.queue.places.ghost_name)
-    × Underway g.K.Length.kind (streets_within G l.limits) G.slots l.limits.root (table_of l.tree) (held l.queue)
+invariant-loop-best g l = RunKept g.K.Length.kind l.initial.run l.run × RunUnderway g.K.Length.kind (g.M.Map.graph l.map) l.run (held l.run.queue)
 
 abbrev pub decreases-loop-best : goal.decreases-loop-best
-decreases-loop-best g l =
-    let G = g.M.Map.graph l.map in
-    length (held l.queue) + unsettled_tails (streets_within G l.limits) (table_of l.tree) G.slots
+decreases-loop-best g l = work_left (g.M.Map.graph l.map) l.run

@@ -1,9 +1,5 @@
-use Rattle.std.proofs.Common.{sym, subst, rules}
-use Rattle.calls.specs.Fitting.{FitsMap}
 use Rattle.calls.proofs.Fitting.{fits_created}
 use Rattle.oracle.proofs.plan.Plan.new.Goals as goal
 
-pub returns : goal.returns
-returns g c =
-    let G = g.M.Map.graph c.args.map in
-    record { same = search rules; moment = c.new.ensures.moment; fits = record { few = c.new.ensures.few; moment = subst (FitsMap G) (sym c.new.ensures.moment) (fits_created G) } }
+pub returns-clause-fits : goal.returns-clause-fits
+returns-clause-fits g c = record { moment = rw c.new.ensures (fits_created _) }

@@ -1,0 +1,31 @@
+use Rattle.std.proofs.Common.{◌≡◌, ℕ, zero, suc, ◌+◌, ◌-◌, ◌*◌, Bool, true, false, cond, not, ◌||◌, eqb, refl, sym, ap, ◌∙◌, arith, rules, tests}
+use Rattle.std.specs.List.{list_any, range_with_len}
+use Rattle.std.proofs.lemmas.Iterator.Search.{any_from_yields_List}
+use Rattle.std.proofs.lemmas.Bool.{ne_eqb, not_from_false}
+use Rattle.maps.proofs.Spans.{yields_over}
+use Rattle.formats.specs.Scan.{scan, lowest_in}
+use Rattle.block.specs.Layout.{cell_count}
+use Rattle.block.specs.Refusal.{leads_out}
+use Rattle.block.proofs.cells.Cells.opens_out.Goals as goal
+
+-- some number passes exactly if there is a lowest
+some_or : (t : Bool) (k n : ℕ) (r : Bool) → r ≡ not (eqb n 0) → (t || r) ≡ not (eqb (cond t (suc k) n) 0)
+some_or true k n r e = let p : suc k ≡ 0 → ⊥ = λ z. omega arith in sym (not_from_false _ (ne_eqb (suc k) 0 p))
+some_or false k n r e = e
+
+any_scan : (P : ℕ → Bool) (a n : ℕ) → list_any P (range_with_len (suc a) n) ≡ not (eqb (scan P a n) 0)
+any_scan P a zero = refl
+any_scan P a (suc n) =
+    let next : suc a + 1 ≡ suc (suc a) = omega arith in
+    ap (λ b. P (suc a) || list_any P (range_with_len b n)) next ∙ some_or (P (suc a)) a (scan P (suc a) n) _ (any_scan P (suc a) n)
+
+any_lowest : (P : ℕ → Bool) (m : ℕ) → list_any P (range_with_len 1 (m + 1 - 1)) ≡ not (eqb (lowest_in P 0 m) 0)
+unfolding lowest_in
+any_lowest P m = let n : m + 1 - 1 ≡ m - 0 = omega arith in ap (λ k. list_any P (range_with_len 1 k)) n ∙ any_scan P 0 (m - 0)
+
+pub returns : goal.returns
+returns c =
+    let bs = c.args.self.now.bytes.now in
+    let e = c.new.ensures in
+    any_from_yields_List (leads_out bs) _ _ c.any.result c.any.ensures.ran (yields_over c.new.result 1 (4 * cell_count bs) e.start (omega arith) e.exhausted) (λ x b q k. search (rules, tests))
+    ∙ any_lowest (leads_out bs) (4 * cell_count bs)

@@ -1,0 +1,31 @@
+-- What `find` over a range answers, by lowest_in.
+use Rattle.std.proofs.Common.{◌≡◌, ℕ, zero, suc, ◌+◌, ◌-◌, Bool, true, false, cond, Some, Option, Bor, refl, sym, ap, ◌∙◌, subst, arith}
+use Rattle.std.specs.declared.ops.RangeInclusive.{RangeInclusive}
+use Rattle.std.specs.Range.{range_inclusive_start, range_inclusive_end, range_inclusive_exhausted}
+use Rattle.std.specs.Iterator.{FindsItem}
+use Rattle.std.specs.List.{find, range_with_len}
+use Rattle.std.specs.Fn.{CalledAt}
+use Rattle.std.proofs.iter.runs.Sources.{nat_range_inclusive_steps}
+use denote.Param.Members.{Mut}
+use Rattle.maps.proofs.Spans.{found_over}
+use Rattle.formats.specs.Scan.{scan, optional, lowest_in}
+
+hit_or : (t : Bool) (k n : ℕ) (r : Option ℕ) → r ≡ optional n → cond t (Some (suc k)) r ≡ optional (cond t (suc k) n)
+hit_or true k n r e = refl
+hit_or false k n r e = e
+
+-- the numbers from b on, of which a is the one before
+find_scan : (P : ℕ → Bool) (a b n : ℕ) → b ≡ suc a → find P (range_with_len b n) ≡ optional (scan P a n)
+find_scan P a b zero e = refl
+find_scan P a b (suc n) e =
+    subst (λ x. cond (P x) (Some x) (find P (range_with_len (b + 1) n)) ≡ optional (cond (P (suc a)) (suc a) (scan P (suc a) n))) (sym e)
+    (hit_or (P (suc a)) a (scan P (suc a) n) (find P (range_with_len (b + 1) n)) (find_scan P (suc a) (b + 1) n (omega arith)))
+
+-- `find` over the numbers from a + 1 to m answers the lowest that passes
+pub found_lowest : {F : Type 0} {g : Mut F (Bor ℕ × Unit {0}) Bool} (P : ℕ → Bool) (s u : RangeInclusive ℕ) (a m : ℕ) (f : F) (r : Option ℕ)
+    → range_inclusive_start s ≡ suc a → range_inclusive_end s ≡ m → range_inclusive_exhausted s ≡ false → FindsItem nat_range_inclusive_steps g s f r u
+    → ((x : ℕ) (b : Bool) (q : F) → CalledAt g f x b q → (q ≡ f) × (b ≡ P x)) → r ≡ optional (lowest_in P a m)
+unfolding lowest_in
+found_lowest P s u a m f r start end whole d tests =
+    let size : m + 1 - suc a ≡ m - a = omega arith in
+    found_over s (suc a) m start end whole u f r P d tests ∙ ap (λ n. find P (range_with_len (suc a) n)) size ∙ find_scan P a (suc a) (m - a) refl
