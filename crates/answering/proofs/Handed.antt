@@ -98,7 +98,7 @@ module _ (K : Kind) (G : Graph) (ns : List ℕ) (on : AllByRecursion (OnMap G) n
           position : (j ≡ 31 → ⊥) → (0 < j) × (j ≤ length ns)
           position q = ⊎_elim (λ y. y) (λ (y : j ≡ 31). absurd (q y)) target
 
-      handed_row : (j : ℕ) → leg_of legs i j ≡ handed_legs K G ns F s t i j
+      pub handed_row : (j : ℕ) → leg_of legs i j ≡ handed_legs K G ns F s t i j
       handed_row j =
           ⊎_elim
           (λ (h : leg_between (length ns) i j ≡ true). let b = between_is (length ns) i j h in inner j b.0 b.1 b.2 ∙ sym (cond-true (leg_between (length ns) i j) _ None h))

@@ -17,14 +17,14 @@ use Rattle.answering.specs.Handing.{RowsFilled, Round, is_marked, unmarked, is_c
 use Rattle.answering.proofs.Handed.{at}
 
 -- ---- marks
-marked_fewer : (ms : List Bool) (p : ℕ) → p < length ms → get_or ms p false ≡ false → unmarked (set ms p true) < unmarked ms
+pub marked_fewer : (ms : List Bool) (p : ℕ) → p < length ms → get_or ms p false ≡ false → unmarked (set ms p true) < unmarked ms
 marked_fewer [] p lt h = absurd (omega arith)
 marked_fewer (b ∷ bs) zero lt h = let z : bit (not b) ≡ 1 = ap (λ x. bit (not x)) h in omega arith
 marked_fewer (b ∷ bs) (suc p) lt h = omega (arith, marked_fewer bs p (omega arith) h)
 
 module _ (ns : List ℕ) (few : length ns ≤ 16) (rs : List TreeRecord) (run : ℕ → Table) where
   -- ---- one row more
-  filled_more : (ms : List Bool) (p : ℕ) → p < length ms → p < length ns → (count_in rs (p + 1) ≡ 0 → ⊥) → (old D E : Legs) → E ≡ with_row ns (p + 1) (run (get_or ns p 0)) D
+  pub filled_more : (ms : List Bool) (p : ℕ) → p < length ms → p < length ns → (count_in rs (p + 1) ≡ 0 → ⊥) → (old D E : Legs) → E ≡ with_row ns (p + 1) (run (get_or ns p 0)) D
       → RowsFilled ns rs run (is_marked ms) old D → RowsFilled ns rs run (is_marked (set ms p true)) old E
   filled_more ms p room below some old D E e h = record {
     filled = λ i j lo hi a b n m. let x = at e i j in let y = h.filled i j lo hi a b n in grind (arith, common_steps, nat_tests);

@@ -1,12 +1,13 @@
 -- Streets of a block by their slots: a street leaves the cell of its slot.
-use Rattle.std.proofs.Common.{◌≡◌, ℕ, ◌+◌, ◌-◌, ◌*◌, ◌<◌, ◌≤◌, Bool, true, false, cond, ◌&&◌, eqb, ltb, List, Some, None, Option, refl, ap, ◌∙◌, arith}
-use Rattle.std.proofs.lemmas.Bool.{ltb-true, lt-ltb, eqb-true, eq-eqb, and_parts, and_from}
+use Rattle.std.proofs.Common.{◌≡◌, ℕ, ◌+◌, ◌*◌, ◌<◌, ◌≤◌, Bool, true, false, cond, eqb, List, Some, None, Option, refl, ap, ◌∙◌, arith}
+use Rattle.std.proofs.lemmas.Bool.{eqb-true, eq-eqb}
 use Rattle.maps.specs.Graph.{Street, Lowest, Placed, Leaves, tail_of, head_of, Enters}
 use Rattle.formats.specs.Scan.{optional, lowest_in}
 use Rattle.formats.proofs.Scans.{PassesTo, lowest_in_lowest}
-use Rattle.block.specs.Layout.{cell_count, cell_of, side_of, street_from, street_at, filled, block_graph}
+use Rattle.block.specs.declared.cells.Side.{Side}
+use Rattle.block.specs.Layout.{cell_count, cell_of, side_of, street_from, street_at, filled, inside, block_graph}
 use Rattle.block.specs.Refusal.{Sound}
-use Rattle.block.specs.Laws.{filled_parts, block_lawful}
+use Rattle.block.specs.Laws.{passed, filled_parts, leads_in, block_lawful}
 
 tail_if : (b : Bool) (x : Street) (v : ℕ) → 0 < v → tail_of (cond b (Some x) None) ≡ v → (b ≡ true) × (x.0 ≡ v)
 tail_if true x v p h = (refl, h)
@@ -53,24 +54,28 @@ heads_from v None h = absurd (omega (arith, h.0, h.1))
 heads_from v (Some s) h = eq-eqb s.1 v h.1
 
 module _ (bs : List ℕ) (v after : ℕ) where
-  -- the first of the four slots of cell v that holds a street is the lowest that leaves v
-  abbrev pub leaving : ℕ → Bool
-  leaving k = ltb after k && filled bs k
-
-  pub lowest_leaving_is : 0 < v → Lowest (Leaves (block_graph bs) v) after (optional (lowest_in leaving (4 * v - 4) (4 * v)))
-  lowest_leaving_is some =
-      lowest_above (PassesTo leaving (4 * v)) (Leaves (block_graph bs) v) (4 * v - 4) after _
-      (λ k lo p. let t = and_parts (ltb after k) (filled bs k) p.1 in (ltb-true after k t.0, slot_leaves bs v k t.1 (omega (arith, p.0))))
-      (λ k lo l. let s = leaves_slot bs v k l in (omega (arith, s.2), (omega (arith, s.1), and_from _ _ (lt-ltb after k lo) s.0)))
-      (lowest_in_lowest leaving (4 * v - 4) (4 * v) (omega arith))
+  -- the first of the slots of cell v above a number that holds a street is the lowest there that leaves v
+  pub lowest_leaving_is : (before : ℕ) → 0 < v → after ≤ before → 4 * v ≤ before + 4 → before ≤ 4 * v → ((k : ℕ) → after < k → 4 * v < k + 4 → before < k)
+      → Lowest (Leaves (block_graph bs) v) after (optional (lowest_in (filled bs) before (4 * v)))
+  lowest_leaving_is before some lo four hi least =
+      lowest_above (PassesTo (filled bs) (4 * v)) (Leaves (block_graph bs) v) before after _
+      (λ k above p. (omega arith, slot_leaves bs v k p.1 (omega (arith, p.0))))
+      (λ k above l. let s = leaves_slot bs v k l in (least k above s.2, (s.1, s.0)))
+      (lowest_in_lowest (filled bs) before (4 * v) hi)
 
   -- the first slot above a number that holds a street to v is the lowest there that enters v
   abbrev pub entering : ℕ → Bool
-  entering k = ltb after k && heads v (street_at bs k)
+  entering k = heads v (street_at bs k)
 
-  pub lowest_entering_is : Sound bs → Lowest (Enters (block_graph bs) v) after (optional (lowest_in entering 0 (4 * cell_count bs)))
-  lowest_entering_is sound =
-      lowest_above (PassesTo entering (4 * cell_count bs)) (Enters (block_graph bs) v) 0 after _
-      (λ k lo p. let t = and_parts (ltb after k) (heads v (street_at bs k)) p.1 in (ltb-true after k t.0, heads_true (cell_count bs) v (street_at bs k) ((block_lawful bs sound).placed k) t.1))
-      (λ k lo l. (omega (arith, l.0), (enters_slot bs v k l, and_from _ _ (lt-ltb after k lo) (heads_from v (street_at bs k) l))))
-      (lowest_in_lowest entering 0 (4 * cell_count bs) (omega arith))
+  pub lowest_entering_is : Sound bs → after ≤ 4 * cell_count bs → Lowest (Enters (block_graph bs) v) after (optional (lowest_in entering after (4 * cell_count bs)))
+  lowest_entering_is sound within =
+      lowest_above (PassesTo entering (4 * cell_count bs)) (Enters (block_graph bs) v) after after _
+      (λ k lo p. (lo, heads_true (cell_count bs) v (street_at bs k) ((block_lawful bs sound).placed k) p.1))
+      (λ k lo l. (lo, (enters_slot bs v k l, heads_from v (street_at bs k) l)))
+      (lowest_in_lowest entering after (4 * cell_count bs) within)
+
+-- a filled slot's cell is one of the block's, and the neighbour at its side lies in the block
+pub slot_beside : (bs : List ℕ) → Sound bs → (e j : ℕ) (s : Side) → j ≡ cell_of e → s ≡ side_of e → filled bs e ≡ true → (0 < j) × ((j ≤ cell_count bs) × (inside bs j s ≡ true))
+slot_beside bs sound e j s cell side t =
+    let p = filled_parts bs e t in
+    rw (cell, side) ((omega arith, (omega (arith, p.0, p.1), leads_in bs (passed bs sound.0).sides e t)))

@@ -1,5 +1,5 @@
 // The cells of a block and their sides, read from its bytes.
-ghost use Rattle.std.specs.Prelude.{◌≡◌, ◌*◌, ◌<◌, ◌≤◌, not, ◌==◌, Some, None, if◌then◌else◌, IfOk, IfErr};
+ghost use Rattle.std.specs.Prelude.{◌≡◌, ◌*◌, ◌<◌, ◌≤◌, true, not, ◌==◌, IfOk, IfErr};
 ghost use Rattle.formats.specs.Faults.{number_of};
 ghost use Rattle.block.specs.Layout.{width, height, cell_count, cell_at, bit_of, cell_of, side_of, opened, inside, neighbour, filled};
 ghost use Rattle.block.specs.Refusal.{leads_out, bad_side, refusal};
@@ -24,16 +24,19 @@ impl Side {
     }
 }
 
-// The sides in the order of their slots.
-const SIDES: [Side; 4] = [Side::North, Side::East, Side::South, Side::West];
-
 // The cell of slot e, and its side.
 pub(crate) fn place_of(e: u16) -> (u16, Side)
     requires { 0 < e }
     ensures cell { result.0 ≡ cell_of e }
     ensures side { result.1 ≡ side_of e }
 {
-    ((e - 1) / 4 + 1, SIDES[usize::from((e - 1) % 4)])
+    let side = match (e - 1) % 4 {
+        0 => Side::North,
+        1 => Side::East,
+        2 => Side::South,
+        _ => Side::West,
+    };
+    ((e - 1) / 4 + 1, side)
 }
 
 // Bytes with a block's head, and just the length that it says.
@@ -100,20 +103,33 @@ impl<'a> Cells<'a> {
         self.cell(j) & side.bit() != 0
     }
 
-    // The neighbour of cell j at the side, if it lies in the block.
-    pub(crate) fn beside(&self, j: u16, side: Side) -> Option<u16>
+    // Whether the neighbour of cell j at the side lies in the block.
+    fn is_inside(&self, j: u16, side: Side) -> bool
         requires { (0 < j) × (j ≤ cell_count self.now.bytes.now) }
-        ensures { result ≡ (if inside self.now.bytes.now j side then Some (neighbour self.now.bytes.now j side) else None) }
+        ensures { result ≡ inside self.now.bytes.now j side }
     {
         let width = self.width();
         let row = (j - 1) / width;
         let column = (j - 1) % width;
         match side {
-            Side::North if row > 0 => Some(j - width),
-            Side::East if column + 1 < width => Some(j + 1),
-            Side::South if row + 1 < self.height() => Some(j + width),
-            Side::West if column > 0 => Some(j - 1),
-            _ => None,
+            Side::North => row > 0,
+            Side::East => column + 1 < width,
+            Side::South => row + 1 < self.height(),
+            Side::West => column > 0,
+        }
+    }
+
+    // The neighbour of cell j at the side, which lies in the block: it is read with each street, and is not looked for again.
+    pub(crate) fn beside(&self, j: u16, side: Side) -> u16
+        requires { (0 < j) × ((j ≤ cell_count self.now.bytes.now) × (inside self.now.bytes.now j side ≡ true)) }
+        ensures value { result ≡ neighbour self.now.bytes.now j side }
+        ensures within { result ≤ cell_count self.now.bytes.now }
+    {
+        match side {
+            Side::North => j - self.width(),
+            Side::East => j + 1,
+            Side::South => j + self.width(),
+            Side::West => j - 1,
         }
     }
 
@@ -134,7 +150,7 @@ impl<'a> Cells<'a> {
         ensures { result ≡ leads_out self.now.bytes.now e }
     {
         let (j, side) = place_of(e);
-        self.is_open(j, side) && self.beside(j, side).is_none()
+        self.is_open(j, side) && !self.is_inside(j, side)
     }
 
     // Whether an open side leads out of the block.

@@ -75,15 +75,23 @@ impl<'a> Block<'a> {
         if v == 0 || v > cells.count() {
             return None;
         }
-        (4 * v - 3..=4 * v).find(|&e| e > after && cells.is_filled(e))
+        let last = 4 * v;
+        let before = after.max(last - 4);
+        if before >= last {
+            return None;
+        }
+        (before + 1..=last).find(|&e| cells.is_filled(e))
     }
 
     // The lowest street above `after` whose head is v.
     fn lowest_entering(&self, v: u16, after: u16) -> Option<u16>
         ensures { Lowest (Enters (block_graph self.now.bytes.now) v) after result }
     {
-        (1..=self.slots()).find(|&e| e > after
-            && matches!(self.slot(e), Some((_, head, _)) if head == v))
+        let last = self.slots();
+        if after >= last {
+            return None;
+        }
+        (after + 1..=last).find(|&e| self.slot(e).is_some_and(|(_, head, _)| head == v))
     }
 }
 
@@ -106,7 +114,7 @@ impl<'a> Map for Block<'a> {
             return None;
         }
         let (tail, side) = place_of(e);
-        let head = cells.beside(tail, side)?;
+        let head = cells.beside(tail, side);
         Some((tail, head, 1 + u32::from(cells.cell(head) / 16)))
     }
 

@@ -27,17 +27,17 @@ fn number_of(bytes: &[u8]) -> Option<Numeral<'_>>
     if bytes.is_empty() {
         return None;
     }
-    let mut value = Some(0u16);
+    // Stays at 65,536 once it is more: a number may have any count of digits, and an option of each value on the way takes longer.
+    let mut value = 0u32;
     for b in bytes {
         if !b.is_ascii_digit() {
             return None;
         }
-        let digit = u16::from(*b - b'0');
-        value = value.and_then(|v| v.checked_mul(10)?.checked_add(digit));
+        value = (value * 10 + u32::from(*b - b'0')).min(65_536);
     }
     Some(Numeral {
         digits: bytes,
-        value,
+        value: u16::try_from(value).ok(),
     })
 }
 

@@ -1,5 +1,5 @@
--- The laws of lowest_in: what it gives.
-use Rattle.std.proofs.Common.{◌≡◌, ℕ, zero, suc, ◌+◌, ◌-◌, ◌<◌, ◌≤◌, Bool, true, false, cond, Some, None, Option, refl, subst, ⊎_elim, arith}
+-- The laws of lowest_in: what it gives, and the step, the hit and the end of a count upwards.
+use Rattle.std.proofs.Common.{◌≡◌, ℕ, zero, suc, ◌+◌, ◌-◌, ◌<◌, ◌≤◌, Bool, true, false, cond, Some, None, Option, refl, ap, ◌∙◌, subst, ⊎_elim, arith}
 use native.Mathlib.Decide.{ℕ_discrete, dec_le}
 use borrow.Author.Tests.{both_ways}
 use Rattle.std.proofs.lemmas.Bool.{cases_Bool}
@@ -78,3 +78,24 @@ module _ (P : ℕ → Bool) (a m : ℕ) (le : a ≤ m) where
             let found = lowest_in_found (omega arith) in
             absurd (both_ways _ (none (lowest_in P a m) (here_at (λ k. a < k) (lowest_in P a m) (omega arith) (lowest_in_lowest P a m le).above) found.0) found.1)
       ]
+
+-- one step of a loop that counts up
+step : (P : ℕ → Bool) (a m : ℕ) (b : Bool) → a < m → P (suc a) ≡ b → lowest_in P a m ≡ cond b (suc a) (lowest_in P (suc a) m)
+unfolding lowest_in
+step P a m b lt e =
+    let s : m - a ≡ suc (m - suc a) = omega arith in
+    ap (scan P a) s ∙ ap (λ t. cond t (suc a) (scan P (suc a) (m - suc a))) e
+
+pub lowest_in_past : (P : ℕ → Bool) (k m : ℕ) → 0 < k → k ≤ m → P k ≡ false → lowest_in P (k - 1) m ≡ lowest_in P k m
+lowest_in_past P k m lo hi e =
+    let s : suc (k - 1) ≡ k = omega arith in
+    step P (k - 1) m false (omega arith) (ap P s ∙ e) ∙ ap (λ x. lowest_in P x m) s
+
+pub lowest_in_hit : (P : ℕ → Bool) (k m : ℕ) → 0 < k → k ≤ m → P k ≡ true → lowest_in P (k - 1) m ≡ k
+lowest_in_hit P k m lo hi e =
+    let s : suc (k - 1) ≡ k = omega arith in
+    step P (k - 1) m true (omega arith) (ap P s ∙ e) ∙ s
+
+pub lowest_in_end : (P : ℕ → Bool) (a m : ℕ) → m ≤ a → lowest_in P a m ≡ 0
+unfolding lowest_in
+lowest_in_end P a m le = let s : m - a ≡ 0 = omega arith in ap (scan P a) s

@@ -48,7 +48,7 @@ pub cell_few : (k i j : ℕ) → k ≤ 16 → leg_between k i j ≡ true → cel
 unfolding column
 cell_few k i j few h = let b = between_is k i j h in let c = column_few k j few b.1 in omega arith
 
-cell_one : (k i j a b : ℕ) → k ≤ 16 → leg_between k i j ≡ true → leg_between k a b ≡ true → cell_of i j ≡ cell_of a b → (i ≡ a) × (j ≡ b)
+pub cell_one : (k i j a b : ℕ) → k ≤ 16 → leg_between k i j ≡ true → leg_between k a b ≡ true → cell_of i j ≡ cell_of a b → (i ≡ a) × (j ≡ b)
 unfolding column
 cell_one k i j a b few p q e =
     let x = between_is k i j p in

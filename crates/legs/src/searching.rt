@@ -34,7 +34,9 @@ impl Search<'_, '_> {
         requires fits { length_at self.old.reached to ≡ None → length (held self.old.queue) < room self.old.queue }
         ensures { Puts K.Length.kind (adding K.Length.kind walked to (legs_out self.old from to) (held self.old.queue)) self.old self.new }
     {
-        if let (None, Some(leg)) = (self.reached.length(to), self.legs.leg(from, to)) {
+        if self.reached.length(to).is_none()
+            && let Some(leg) = self.legs.leg(from, to)
+        {
             let length = K::join(walked, leg);
             let _ = self.queue.put::<ByLength<K>>(Node {
                 length,

@@ -125,6 +125,8 @@ impl<M: TwoWay, K: Zeroed> State<M> for Index<M, K> {
 
 // Lives the lines from a place on by one state, up to the call that ends it, which is done; answers the place after that call. None if
 // the lines or the places for answers end before.
+// Not inlined: plan and index are then moved less often between two such turns.
+#[inline(never)]
 fn live_state<M: TwoWay, S: State<M>, L: Line>(
     state: &mut S,
     lines: &[L],

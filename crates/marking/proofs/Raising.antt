@@ -14,12 +14,12 @@ use Rattle.tables.specs.Tables.{no_record, count_in}
 use Rattle.marking.specs.Marking.{Within, Recounted, HasRoom, next_count}
 
 -- ---- lists of positions
-member_push : (xs : List ℕ) (p i : ℕ) → member (xs ++ p ∷ []) i ≡ (member xs i || eqb p i)
+pub member_push : (xs : List ℕ) (p i : ℕ) → member (xs ++ p ∷ []) i ≡ (member xs i || eqb p i)
 member_push [] p i = or-false (eqb p i)
 member_push (x ∷ xs) p i = ap (λ b. eqb x i || b) (member_push xs p i) ∙ sym (or_assoc (eqb x i) (member xs i) (eqb p i))
 
 -- no number of a rising list stands before its place
-rising_fresh : (xs : List ℕ) (k : ℕ) → Rising xs → k < length xs → member (take k xs) (get_or xs k 0) ≡ false
+pub rising_fresh : (xs : List ℕ) (k : ℕ) → Rising xs → k < length xs → member (take k xs) (get_or xs k 0) ≡ false
 rising_fresh [] k h lt = absurd (omega arith)
 rising_fresh (x ∷ xs) zero h lt = refl
 rising_fresh (x ∷ xs) (suc k) h lt =

@@ -5,7 +5,6 @@ use Rattle.std.proofs.Math.Bool.{beq}
 use Rattle.std.proofs.ByRecursion.{All-from_get_or}
 use Rattle.std.proofs.lemmas.Grind.{common_steps}
 use Rattle.std.proofs.lemmas.Bool.Decides.{nat_tests}
-use Rattle.std.proofs.lemmas.List.{get_or_default}
 use Rattle.maps.specs.Graph.{Graph, LawfulMap}
 use Rattle.lengths.specs.Kinds.{Kind, LawfulKind}
 use Rattle.walks.specs.Streets.{member}
@@ -25,14 +24,13 @@ use Rattle.calls.specs.Moments.{with_mark, after}
 use Rattle.calls.proofs.Fitting.{fits_after}
 use Rattle.tables.specs.declared.Tables.{Tables}
 use Rattle.tables.specs.declared.TreeRecord.{TreeRecord}
-use Rattle.tables.specs.declared.Holders.{Holders}
-use Rattle.tables.specs.Tables.{transit_of, closed_of, moment_of, no_record, no_holders, count_in, list_of, holders_in}
+use Rattle.tables.specs.Tables.{transit_of, closed_of, moment_of, no_record, count_in, holders_in}
 use Rattle.marking.specs.Marking.{Within, HasRoom, Recounted, mark_fault, mark_call}
 use Rattle.tables.specs.Fits.{IndexFits}
 use Rattle.tables.proofs.Fitting.{fits_built}
 
 -- ---- slots of streets
-street_slot : (G : Graph) → LawfulMap G → (e : ℕ) → is_some (G.street e) ≡ true → (0 < e) × (e ≤ 512)
+pub street_slot : (G : Graph) → LawfulMap G → (e : ℕ) → is_some (G.street e) ≡ true → (0 < e) × (e ≤ 512)
 street_slot G law e p = let more = law.no_more e in (grind (arith, common_steps), grind (arith, common_steps))
 
 -- ---- there is no fault
@@ -59,10 +57,6 @@ all_members P xs h = All-from_get_or P xs 0 (λ k lt. h (get_or xs k 0) (member_
 module _ (K : Kind) (lawK : LawfulKind K) (G : Graph) (lawG : LawfulMap G) (x : Tables) (fits : IndexFits K G x) (e : ℕ) (here : is_some (G.street e) ≡ true) where
   slot : (0 < e) × (e ≤ 512)
   slot = street_slot G lawG e here
-
-  -- a row as it is read
-  pub row_read : length x.holders ≡ 512 → (r : Holders) (ps : List ℕ) → ps ≡ list_of (get_or x.holders (e - 1) r) → ps ≡ holders_in x.holders e
-  row_read long r ps is = is ∙ ap list_of (get_or_default x.holders (e - 1) r no_holders (omega (arith, slot.1)))
 
   row_is : holders_in x.holders e ≡ positions K G (transit_of x) e
   row_is = fits.stored.index e slot.0 slot.1
@@ -112,7 +106,7 @@ module _ (K : Kind) (lawK : LawfulKind K) (G : Graph) (lawG : LawfulMap G) (x : 
       abbrev pub remarked : Tables
       remarked = record { closed = set x.closed (e - 1) b; transit = x.transit; tally = x.tally; trees = new; legs = x.legs; holders = x.holders }
 
-      marks_after : closed_in (set x.closed (e - 1) b) ≡ marked (closed_of x) e b
+      pub marks_after : closed_in (set x.closed (e - 1) b) ≡ marked (closed_of x) e b
       marks_after = set_closed x.closed e b slot.0 (omega (arith, slot.1))
 
       pub remarked_moment : moment_of true remarked ≡ after G (moment_of true x) (mark_call b e)
@@ -131,6 +125,7 @@ module _ (K : Kind) (lawK : LawfulKind K) (G : Graph) (lawG : LawfulMap G) (x : 
           counts = λ i some few. counts_after b mark new r i some few ∙ ap (λ F. closed_held F (tree_at K G (transit_of x) i) G.junctions) (sym marks_after);
           places = fits.stored.places;
           legs = fits.stored.legs;
+          rows = fits.stored.rows;
           index = fits.stored.index;
         };
       }

@@ -51,7 +51,8 @@ fn remark<M: Map, K: Length>(
     tables.closed[at] = closed;
     let Tables { trees, holders, .. } = tables;
     let holders = &*holders;
-    recount(trees, holders[at].positions.as_slice(), closed);
+    let row = &holders[at];
+    recount(trees, &row.positions[..row.count], closed);
     Ok(())
 }
 

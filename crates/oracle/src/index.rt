@@ -11,6 +11,7 @@ ghost use Rattle.oracle.specs.States.{unnamed};
 ghost use Rattle.oracle.specs.Looks.{tree_look, index_look};
 
 use crate::plan::Plan;
+use arrayvec::ArrayVec;
 use calls::Fault;
 use lengths::Zeroed;
 use maps::TwoWay;
@@ -94,7 +95,8 @@ impl<M: TwoWay, K: Zeroed> Index<M, K> {
         ensures same { result.map ≡ self.map }
         ensures moment { moment_of false result.tables ≡ after (M.Map.graph self.map) (moment_of true self.tables) Replan }
     {
-        self.tables.transit.clear();
+        // A new list and not `clear`, after which the tables are moved once more.
+        self.tables.transit = ArrayVec::new();
         Plan {
             map: self.map,
             tables: self.tables,

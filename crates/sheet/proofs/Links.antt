@@ -29,7 +29,7 @@ equal_some (suc a) zero = ne_eqb (suc a) 0 (λ e. absurd (omega arith)) ∙ sym 
 equal_some (suc a) (suc b) = sym (ap (λ t. t && eqb (suc a) (suc b)) (lt-ltb 0 (suc b) (omega arith)))
 
 -- ---- the test of a chain
-on_chain_lem : (g : Graph) (c : Chain) (v e : ℕ) → OnChain g c v e → on_chain g c v e ≡ true
+pub on_chain_lem : (g : Graph) (c : Chain) (v e : ℕ) → OnChain g c v e → on_chain g c v e ≡ true
 on_chain_lem g c v e h = and_from (ltb 0 v) (eqb (end_of c (g.street e)) v) (lt-ltb 0 v h.0) (eq-eqb (end_of c (g.street e)) v h.1)
 
 on_fact : (g : Graph) (c : Chain) (v e : ℕ) → on_chain g c v e ≡ true → OnChain g c v e
@@ -37,8 +37,11 @@ on_fact g c v e h =
     let p = and_parts (ltb 0 v) (eqb (end_of c (g.street e)) v) h in
     (ltb-true 0 v p.0, eqb-true (end_of c (g.street e)) v p.1)
 
-off_zero : (g : Graph) (c : Chain) (v e : ℕ) → v ≤ 0 → on_chain g c v e ≡ false
+pub off_zero : (g : Graph) (c : Chain) (v e : ℕ) → v ≤ 0 → on_chain g c v e ≡ false
 off_zero g c v e h = and_left (ltb 0 v) (eqb (end_of c (g.street e)) v) (le-ltb 0 v h)
+
+pub off_other : (g : Graph) (c : Chain) (v e : ℕ) → (end_of c (g.street e) ≡ v → ⊥) → on_chain g c v e ≡ false
+off_other g c v e h = and_right (ltb 0 v) (eqb (end_of c (g.street e)) v) (ne_eqb (end_of c (g.street e)) v h)
 
 -- no street is on the chain of no junction
 pub lowest_off : (g : Graph) (c : Chain) (v a : ℕ) → a ≤ g.slots → None ≡ optional v → None ≡ optional (lowest_on g c v a)

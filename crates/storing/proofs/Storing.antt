@@ -1,9 +1,10 @@
 -- What build stores, record by record: trees, legs and the rows of the inverted index.
-use Rattle.std.proofs.Common.{◌≡◌, ℕ, zero, suc, ◌+◌, ◌-◌, ◌<◌, ◌≤◌, Bool, cond, leb, List, [], ◌∷◌, ◌++◌, length, get_or, set, take, None, map, filter, sym, refl, ap, ◌∙◌, subst, arith, length-set}
+use Rattle.std.proofs.Common.{◌≡◌, ℕ, zero, suc, ◌+◌, ◌-◌, ◌<◌, ◌≤◌, Bool, cond, leb, List, [], ◌∷◌, ◌++◌, length, get_or, set, take, None, map, filter, sym, refl, ap, ◌∙◌, subst, ⊎_elim, arith, length-set}
 use Rattle.std.proofs.lemmas.Grind.{elements}
 use mathlib.Core.Path.{fun_ext}
 use Rattle.std.proofs.lemmas.List.FromFn.{filter_of_map_range_with_len_more, sum_by-map-range_with_len_more}
-use Rattle.std.proofs.lemmas.List.{map-id, get_or-take, length-take-le}
+use Rattle.std.proofs.lemmas.List.{map-id, get_or-take, get_or-set_same, get_or-set_other, length-take-le}
+use Rattle.std.proofs.lemmas.Bool.{cases_eq}
 use Rattle.std.proofs.lemmas.Bool.Decides.{nat_tests}
 use Rattle.std.specs.List.{range_with_len, sum_by, count_by}
 use Rattle.maps.specs.Graph.{Graph}
@@ -16,7 +17,8 @@ use Rattle.asks.specs.Held.{bit, closed_held}
 use Rattle.asks.specs.Index.{tree_at, positions}
 use Rattle.asks.specs.Handed.{stored_legs}
 use Rattle.tables.specs.declared.TreeRecord.{TreeRecord}
-use Rattle.tables.specs.Tables.{no_record, tree_in}
+use Rattle.tables.specs.declared.Holders.{Holders}
+use Rattle.tables.specs.Tables.{no_record, no_holders, tree_in}
 use Rattle.tables.specs.Rows.{with_row_to}
 use Rattle.storing.specs.Records.{TreesStored, tree_legs, tree_positions}
 
@@ -85,6 +87,19 @@ holders_more G rs k e =
     ∙ filter_of_map_range_with_len_more p (λ x. x) 1 k (k + 1) (omega arith)
     ∙ ap (λ (xs : List ℕ). filter p xs ++ cond (p (k + 1)) ((k + 1) ∷ []) []) (map-id (range_with_len 1 k))
     ∙ ap (λ (x : ℕ). tree_positions G rs k e ++ cond (holds_street G (table_of (get_or rs x no_record).tree) e) ((k + 1) ∷ []) []) before
+
+-- a row more
+pub row_more : (P : ℕ → Holders → Type 0) (hs : List Holders) (at : ℕ) (h : Holders) → at < length hs → P (at + 1) h → ((e : ℕ) → 0 < e → e ≤ at → P e (get_or hs (e - 1) no_holders))
+    → (e : ℕ) → 0 < e → e ≤ at + 1 → P e (get_or (set hs at h) (e - 1) no_holders)
+row_more P hs at h lt here before e lo hi =
+    ⊎_elim
+    (λ (p : e ≡ at + 1).
+    let q : e - 1 ≡ at = omega arith in
+    rw (q, get_or-set_same hs at h no_holders lt, p) here)
+    (λ p.
+    let q : e - 1 ≡ at → ⊥ = λ z. p (omega arith) in
+    rw (get_or-set_other hs at (e - 1) h no_holders q) (before e lo (omega arith)))
+    (cases_eq e (at + 1))
 
 -- over the trees of the list they are the positions of the inverted index
 pub index_stored : (K : Kind) (G : Graph) (ns : List ℕ) (F : ℕ → Bool) (rs : List TreeRecord) → TreesStored K G ns F rs (length ns) → (e : ℕ) → tree_positions G rs (length ns) e ≡ positions K G ns e

@@ -7,14 +7,14 @@
 // Not promised here: how the stored trees answer questions. The crate `answering` says it.
 #![tactic(auto)]
 
-ghost use Rattle.std.specs.Prelude.{◌≡◌, ℕ, ◌<◌, ◌≤◌, length};
+ghost use Rattle.std.specs.Prelude.{◌≡◌, ℕ, ◌+◌, ◌-◌, ◌<◌, ◌≤◌, [], ◌∷◌, ◌++◌, length, slice_index_or};
 ghost use Rattle.std.specs.List.{AllByRecursion};
 ghost use Rattle.walks.specs.Trees.{OnMap, tree as tree_of, holds_street};
 ghost use Rattle.asks.specs.Held.{closed_held};
 ghost use Rattle.legs.specs.Tables.{positions_of, leg_of};
 ghost use Rattle.trees.specs.Marks.{closed_in};
 ghost use Rattle.trees.specs.Trees.{table_of};
-ghost use Rattle.tables.specs.Tables.{list_of, holders_in};
+ghost use Rattle.tables.specs.Tables.{list_of, no_holders, holders_in};
 ghost use Rattle.tables.specs.Fits.{PlanFits, IndexFits};
 ghost use Rattle.storing.specs.Records.{TreesStored, tree_legs, tree_positions};
 
@@ -80,15 +80,29 @@ fn holds_street<M: Map>(map: &M, tree: &BoundedTree, e: u16) -> bool
     map.slot(e).is_some_and(|(_, head, _)| tree.get(head).is_some_and(|(slot, _)| slot == e))
 }
 
+// Adds a position to the end of a row.
+fn add_holder(row: &mut Holders, position: u16)
+    requires { row.old.count < 16 }
+    ensures count { row.new.count ≡ row.old.count + 1 }
+    ensures list { list_of row.new ≡ list_of row.old ++ position ∷ [] }
+{
+    row.positions[row.count] = position;
+    row.count += 1;
+}
+
 // The rising positions of the trees of the list that hold the street in slot e.
 fn holders_of<M: Map>(map: &M, e: u16, trees: &[TreeRecord]) -> Holders
     requires { length trees.now ≤ 16 }
-    ensures { list_of result ≡ tree_positions (M.Map.graph map.now) trees.now (length trees.now) e }
+    ensures few { result.count ≤ 16 }
+    ensures list { list_of result ≡ tree_positions (M.Map.graph map.now) trees.now (length trees.now) e }
 {
-    let mut row = Holders::default();
+    let mut row = Holders {
+        positions: [0; 16],
+        count: 0,
+    };
     for (i, record) in trees.iter().enumerate() {
         if holds_street::<M>(map, &record.tree, e) {
-            row.positions.push(i as u16 + 1);
+            add_holder(&mut row, i as u16 + 1);
         }
     }
     row
@@ -97,7 +111,8 @@ fn holders_of<M: Map>(map: &M, e: u16, trees: &[TreeRecord]) -> Holders
 // The inverted index: for each slot the positions of the trees that hold it.
 fn store_index<M: Map>(map: &M, trees: &[TreeRecord], holders: &mut [Holders; 512])
     requires { length trees.now ≤ 16 }
-    ensures { (e : ℕ) → 0 < e → e ≤ 512 → holders_in holders.new e ≡ tree_positions (M.Map.graph map.now) trees.now (length trees.now) e }
+    ensures rows { (e : ℕ) → 0 < e → e ≤ 512 → (slice_index_or holders.new (e - 1) no_holders).count ≤ 16 }
+    ensures index { (e : ℕ) → 0 < e → e ≤ 512 → holders_in holders.new e ≡ tree_positions (M.Map.graph map.now) trees.now (length trees.now) e }
 {
     for (at, row) in holders.iter_mut().enumerate() {
         *row = holders_of::<M>(map, at as u16 + 1, trees);
@@ -105,6 +120,8 @@ fn store_index<M: Map>(map: &M, trees: &[TreeRecord], holders: &mut [Holders; 51
 }
 
 /// Stores the trees without any closure, of each how many closed streets it holds, the legs, and the inverted index.
+// Not inlined: a life then moves its tables less often.
+#[inline(never)]
 pub fn store<M: Map, K: Zeroed>(map: &M, tables: &mut Tables)
     requires { PlanFits (M.Map.graph map.now) tables.old }
     ensures kept { tables.new ≡ record tables.old { trees = tables.new.trees; legs = tables.new.legs; holders = tables.new.holders } }

@@ -1,5 +1,5 @@
 -- What the tables of an oracle hold.
-use Rattle.std.specs.Prelude.{ℕ, ◌-◌, Bool, List, [], get_or, slice_index_or}
+use Rattle.std.specs.Prelude.{ℕ, ◌-◌, Bool, List, [], get_or, take, slice_index_or}
 use Rattle.walks.specs.Runs.{Table}
 use Rattle.trees.specs.Marks.{closed_in}
 use Rattle.trees.specs.Trees.{table_of}
@@ -22,10 +22,10 @@ moment_of built x = record { built = built; listed = transit_of x; closed = clos
 
 -- what stands past the end of a table
 abbrev pub no_record : TreeRecord
-no_record = record { tree = record { entries = [] }; closed = 0 }
+no_record = record { tree = record { slots = []; lengths = [] }; closed = 0 }
 
 abbrev pub no_holders : Holders
-no_holders = record { positions = record { items = [] } }
+no_holders = record { positions = []; count = 0 }
 
 -- the tree at position i, counted from 1, and the number of closed streets that it keeps
 abbrev pub tree_in : List TreeRecord → ℕ → Table
@@ -36,7 +36,7 @@ count_in rs i = (get_or rs (i - 1) no_record).closed
 
 -- the positions of a row of the inverted index
 abbrev pub list_of : Holders → List ℕ
-list_of h = h.positions.items
+list_of h = take h.count h.positions
 
 -- the positions that the inverted index keeps for slot e, counted from 1
 abbrev pub holders_in : List Holders → ℕ → List ℕ

@@ -17,7 +17,6 @@ ghost use Rattle.tables.specs.Tables.{transit_of, moment_of, tree_in, list_of};
 
 use arrayvec::ArrayVec;
 use legs::LegTable;
-use std::array;
 use trees::BoundedTree;
 
 mod rows;
@@ -31,10 +30,12 @@ pub struct TreeRecord {
     pub closed: u16,
 }
 
-/// The list positions, rising, of the trees that hold one street.
-#[derive(Default, Drop)]
+/// The list positions, rising, of the trees that hold one street: the first `count` of the positions. An array beside its length, since a
+/// row is copied like a number, which an `ArrayVec` is not.
+#[derive(Clone, Copy, Default)]
 pub struct Holders {
-    pub positions: ArrayVec<u16, 16>,
+    pub positions: [u16; 16],
+    pub count: usize,
 }
 
 /// What an oracle keeps beside its map: closure marks, transit list and tally; and, once it is built, the trees with their counts,
@@ -57,7 +58,7 @@ impl Holders {
         ensures { result ≡ (if nat_le 1 k then slice_get (list_of self.now) (k - 1) else None) }
     {
         let at = usize::from(k.checked_sub(1)?);
-        self.positions.as_slice().get(at).copied()
+        self.positions[..self.count.min(16)].get(at).copied()
     }
 }
 
@@ -75,7 +76,7 @@ impl Tables {
                 closed: 0,
             }; 16],
             legs: LegTable::new(0),
-            holders: array::from_fn(|_| Holders::default()),
+            holders: [Holders::default(); 512],
         }
     }
 

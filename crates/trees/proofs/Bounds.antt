@@ -39,6 +39,9 @@ module _ (N : ℕ → Bool) (r v : ℕ) (T : Table) (g : Streets) where
           (λ p. same (eqb a.0 r || not (N a.0)) a ∙ rw (apart (is_some (T a.1)) a p) (none (eqb a.0 r || not (N a.0)) ∙ sym (none b)))
           (cases_eq a.0 v)
 
+  pub with_may : (K : Kind) (l m : ℕ) (cs : List Candidate) → true ≡ (eqb v r || not (N v)) → with_streets K (leaving v (unsettled_heads T g)) l m cs ≡ with_streets K (leaving v (unsettled_heads T (bounded_to N r g))) l m cs
+  with_may K l m cs t = ap (λ (h : Streets). with_streets K h l m cs) (sym (bounded_leaving true (sym t)))
+
   pub with_not : (K : Kind) (l m : ℕ) (cs : List Candidate) → false ≡ (eqb v r || not (N v)) → with_streets K (leaving v (unsettled_heads T (bounded_to N r g))) l m cs ≡ cs
   with_not K l m cs t = ap (λ (h : Streets). with_streets K h l m cs) (bounded_leaving false (sym t)) ∙ nil m
     where

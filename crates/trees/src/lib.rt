@@ -23,10 +23,12 @@ use run::{Limits, run_within};
 
 mod run;
 
-/// Slot and length of each settled junction, by its number less one.
+/// The slot of each settled junction, by its number less one, and its length at the same place. Two arrays, and no array of pairs: a pair
+/// with its option takes twice the bytes, and trees are copied.
 #[derive(Clone, Copy)]
 pub struct BoundedTree {
-    entries: [Option<(u16, u64)>; 128],
+    slots: [Option<u16>; 128],
+    lengths: [u64; 128],
 }
 
 impl BoundedTree {
@@ -35,7 +37,8 @@ impl BoundedTree {
         ensures { table_of result ≡ none_settled }
     {
         BoundedTree {
-            entries: [None; 128],
+            slots: [None; 128],
+            lengths: [0; 128],
         }
     }
 
@@ -44,7 +47,8 @@ impl BoundedTree {
         ensures { result ≡ table_of self.now v }
     {
         let i = usize::from(v).checked_sub(1)?;
-        self.entries.get(i).copied().flatten()
+        let slot = (*self.slots.get(i)?)?;
+        Some((slot, self.lengths[i]))
     }
 
     // Settles junction v.
@@ -52,7 +56,9 @@ impl BoundedTree {
         requires { (0 < v) × (v ≤ 128) }
         ensures { table_of self.new ≡ settled_by (table_of self.old) (Some (v, slot, length)) }
     {
-        self.entries[usize::from(v) - 1] = Some((slot, length));
+        let i = usize::from(v) - 1;
+        self.slots[i] = Some(slot);
+        self.lengths[i] = length;
     }
 }
 

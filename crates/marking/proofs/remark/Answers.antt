@@ -1,5 +1,5 @@
 use Rattle.std.proofs.Common.{is_some, sym, ap, ◌∙◌, arith}
-use Rattle.marking.proofs.Remarking.{row_read, row_fits, row_room, remarked_fits, remarked_moment}
+use Rattle.marking.proofs.Remarking.{row_fits, row_room, remarked_fits, remarked_moment}
 use Rattle.marking.proofs.remark.Goals as goal
 
 pub recount-requires : goal.recount-requires
@@ -11,9 +11,8 @@ recount-requires g c =
     let x = c.args.tables.now in
     let here = ap is_some (sym c.slot.ensures) ∙ c.if-is_none.ensures in
     let apart = rw c.from-at.ensures at c.if-tables-at.false in
-    let is = rw c.from-at.ensures at c.as_slice.ensures.value in
-    let row = row_read K law G (g.M.Map.lawful m) x c.requires c.args.e here (omega arith) c.index-holders-at.result c.as_slice.result.now is in
-    rw row (record {
+    rw c.from-at.ensures
+    (record {
       within = row_fits K law G (g.M.Map.lawful m) x c.requires c.args.e here;
       room = row_room K law G (g.M.Map.lawful m) x c.requires c.args.e here c.args.closed apart;
     })
@@ -27,9 +26,7 @@ returns-clause-fits g c =
     let x = c.args.tables.now in
     let here = ap is_some (sym c.slot.ensures) ∙ c.if-is_none.ensures in
     let apart = rw c.from-at.ensures at c.if-tables-at.false in
-    let is = rw c.from-at.ensures at c.as_slice.ensures.value in
-    let row = row_read K law G (g.M.Map.lawful m) x c.requires c.args.e here (omega arith) c.index-holders-at.result c.as_slice.result.now is in
-    let counts = rw row at c.recount.ensures in
+    let counts = rw c.from-at.ensures at c.recount.ensures in
     rw c.from-at.ensures
     (remarked_fits K law G (g.M.Map.lawful m) x c.requires c.args.e here c.args.closed apart (omega arith) c.recount.new.trees counts)
 

@@ -20,6 +20,7 @@ returns-clause-fits g c =
         counts = λ i lo hi. trees.counts (i - 1) (omega arith);
         places = rw list at c.stored_legs-tables.ensures.positions;
         legs = λ i j. ap (λ L. L i j) (rw list at c.stored_legs-tables.ensures.legs ∙ legs_stored K G _ (closed_of x) _ taken);
-        index = λ e lo hi. rw (list, long) at (c.store_index.ensures e lo hi) ∙ index_stored K G _ (closed_of x) _ taken e;
+        rows = c.store_index.ensures.rows;
+        index = λ e lo hi. rw (list, long) at (c.store_index.ensures.index e lo hi) ∙ index_stored K G _ (closed_of x) _ taken e;
       };
     }

@@ -10,5 +10,5 @@ returns c =
     let bs = c.args.self.now.bytes.now in
     let v = c.args.v in
     let e = c.new.ensures in
-    let is = found_lowest (entering bs v c.args.after) c.new.result _ 0 (4 * cell_count bs) _ c.find.result e.start (omega arith) e.exhausted c.find.ensures.ran (λ x b q k. search (rules, tests)) in
-    subst (Lowest (Enters (block_graph bs) v) c.args.after) (sym is) (lowest_entering_is bs v c.args.after c.args.self.now.sound)
+    let is = found_lowest (entering bs v c.args.after) c.new.result _ c.args.after (4 * cell_count bs) _ c.find.result (omega (arith, e.start)) (omega (arith, e.end, c.slots-last.ensures)) e.exhausted c.find.ensures.ran (λ x b q k. search (rules, tests)) in
+    subst (Lowest (Enters (block_graph bs) v) c.args.after) (sym is) (lowest_entering_is bs v c.args.after c.args.self.now.sound (omega (arith, c.if-after-last.false, c.slots-last.ensures)))

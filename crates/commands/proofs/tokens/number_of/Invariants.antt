@@ -1,4 +1,4 @@
-use Rattle.std.proofs.Common.{◌≡◌, ◌≤◌, true, take, SomeIff}
+use Rattle.std.proofs.Common.{◌≡◌, true, min, take}
 use Rattle.std.specs.List.{AllByRecursion}
 use Rattle.commands.specs.Numbers.{is_digit, value_of}
 use Rattle.commands.proofs.tokens.number_of.Given as goal
@@ -8,5 +8,5 @@ abbrev pub invariant-loop-b : goal.invariant-loop-b
 invariant-loop-b l =
     record {
       digits : AllByRecursion (λ d. is_digit d ≡ true) (take l.b-index l.bytes);
-      written : SomeIff l.value (value_of (take l.b-index l.bytes) ≤ 65535) (value_of (take l.b-index l.bytes));
+      written : l.value ≡ min (value_of (take l.b-index l.bytes)) 65536;
     }
