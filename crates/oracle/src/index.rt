@@ -88,18 +88,20 @@ impl<M: TwoWay, K: Zeroed> Index<M, K> {
     }
 
     /// A plan again: closures and tally stay, the transit list is emptied.
-    pub fn replan(mut self) -> Plan<M, K>
+    pub fn replan(self) -> Plan<M, K>
         requires { IndexFits K.Length.kind (M.Map.graph self.map) self.tables }
         ensures whole { result ≡ record { map = self.map; tables = unnamed self.tables; kind = self.kind } }
         ensures fits { PlanFits (M.Map.graph result.map) result.tables }
         ensures same { result.map ≡ self.map }
         ensures moment { moment_of false result.tables ≡ after (M.Map.graph self.map) (moment_of true self.tables) Replan }
     {
-        // A new list and not `clear`, after which the tables are moved once more.
-        self.tables.transit = ArrayVec::new();
+        // A new list among the tables and no change of them: they are then moved less often.
         Plan {
             map: self.map,
-            tables: self.tables,
+            tables: Tables {
+                transit: ArrayVec::new(),
+                ..self.tables
+            },
             kind: PhantomData,
         }
     }

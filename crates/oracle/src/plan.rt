@@ -58,19 +58,21 @@ impl<M: TwoWay, K: Zeroed> Plan<M, K> {
     }
 
     /// An index: the trees without any closure, the legs, the inverted index, and of each tree how many closed streets it holds.
-    pub fn build(mut self) -> Index<M, K>
+    pub fn build(self) -> Index<M, K>
         requires { PlanFits (M.Map.graph self.map) self.tables }
         ensures same { result.map ≡ self.map }
         ensures kept { result.tables ≡ record self.tables { trees = result.tables.trees; legs = result.tables.legs; holders = result.tables.holders } }
         ensures fits { IndexFits K.Length.kind (M.Map.graph result.map) result.tables }
         ensures moment { moment_of true result.tables ≡ after (M.Map.graph self.map) (moment_of false self.tables) Build }
     {
-        store::<M, K>(&self.map, &mut self.tables);
-        Index {
+        // The index is made first and its trees are stored in it: the tables are then moved less often than when they are stored before.
+        let mut index = Index {
             map: self.map,
             tables: self.tables,
             kind: PhantomData,
-        }
+        };
+        store::<M, K>(&index.map, &mut index.tables);
+        index
     }
 
     /// The map, given back.
