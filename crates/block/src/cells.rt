@@ -7,20 +7,21 @@ ghost use Rattle.block.specs.Meaning.{Frame};
 
 use formats::OpenFault;
 
-/// A side of a cell, as the bit of the cell's byte that opens it.
+/// A side of a cell, by its place among the slots of the cell.
 #[derive(Clone, Copy)]
 pub enum Side {
-    North = 1,
-    East = 2,
-    South = 4,
-    West = 8,
+    North = 0,
+    East = 1,
+    South = 2,
+    West = 3,
 }
 
 impl Side {
+    // The bit of the cell's byte that opens the side.
     fn bit(self) -> u8
         ensures { result ≡ bit_of self }
     {
-        self as u8
+        1 << self as u8
     }
 }
 

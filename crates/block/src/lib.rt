@@ -80,7 +80,7 @@ impl<'a> Block<'a> {
         if before >= last {
             return None;
         }
-        (before + 1..=last).find(|&e| cells.is_filled(e))
+        (before + 1..last + 1).find(|&e| cells.is_filled(e))
     }
 
     // The lowest street above `after` whose head is v.
@@ -91,7 +91,8 @@ impl<'a> Block<'a> {
         if after >= last {
             return None;
         }
-        (after + 1..=last).find(|&e| self.slot(e).is_some_and(|(_, head, _)| head == v))
+        // The range ends before a number: one that holds its end takes longer to go over.
+        (after + 1..last + 1).find(|&e| self.slot(e).is_some_and(|(_, head, _)| head == v))
     }
 }
 

@@ -87,7 +87,8 @@ impl LegTable {
     fn holds(&self, position: u16) -> bool
         ensures { result ≡ is_position (positions_of self.now) position }
     {
-        (1..=self.count).contains(&position)
+        // Two comparisons and no `contains`, by which a search takes longer.
+        position != 0 && position <= self.count
     }
 
     // Whether there may be a leg from one node to another.
