@@ -158,6 +158,6 @@ impl<'a> Cells<'a> {
     pub(crate) fn opens_out(&self) -> bool
         ensures { result ≡ not (bad_side self.now.bytes.now == 0) }
     {
-        (1..=4 * self.count()).any(|e| self.leads_out(e))
+        (1..4 * self.count() + 1).any(|e| self.leads_out(e))
     }
 }

@@ -138,6 +138,14 @@ impl<'a> Records<'a> {
         if e == 0 || e > self.slot_count() {
             return None;
         }
+        self.record_street(e)
+    }
+
+    // What slot record e holds. The opening of a sheet reads records over and over, and does not ask each time whether they are there.
+    fn record_street(&self, e: u16) -> Option<(u16, u16, u32)>
+        requires { HasRecord self.now.bytes.now e }
+        ensures { result ≡ street_at self.now.bytes.now e }
+    {
         let at = self.slot_record(e);
         if self.bytes[at] == 0 {
             return None;
@@ -149,11 +157,12 @@ impl<'a> Records<'a> {
         ))
     }
 
-    // The junction at which the chain of slot e runs, none where the slot is absent.
+    // The junction at which the chain of slot record e runs, none where it is empty.
     fn end(&self, chain: Chain, e: u16) -> Option<u16>
+        requires { HasRecord self.now.bytes.now e }
         ensures { result ≡ optional (end_of chain (street_at self.now.bytes.now e)) }
     {
-        let street = self.street(e)?;
+        let street = self.record_street(e)?;
         some_number(chain.end_of(street))
     }
 
@@ -181,12 +190,13 @@ impl<'a> Records<'a> {
         requires { after ≤ 512 }
         ensures { result ≡ optional (lowest_on (sheet_graph self.now.bytes.now) chain v after) }
     {
-        (after + 1..=self.slot_count()).find(|&k| self.end(chain, k) == Some(v))
+        // The range ends before a number: one that holds its end takes longer to go over.
+        (after + 1..self.slot_count() + 1).find(|&k| self.end(chain, k) == Some(v))
     }
 
     // The next street after e on its chain: what its link should hold.
     fn lowest_after(&self, chain: Chain, e: u16) -> Option<u16>
-        requires { e ≤ slot_count self.now.bytes.now }
+        requires { HasRecord self.now.bytes.now e }
         ensures { result ≡ optional (lowest_on (sheet_graph self.now.bytes.now) chain (end_of chain (street_at self.now.bytes.now e)) e) }
     {
         let v = self.end(chain, e)?;
@@ -246,6 +256,6 @@ impl<'a> Records<'a> {
         ensures { result ≡ optional (bad_link self.now.bytes.now) }
     {
         let last = self.junction_count() + self.slot_count();
-        (1..=last).find(|&r| self.has_wrong_link(r))
+        (1..last + 1).find(|&r| self.has_wrong_link(r))
     }
 }

@@ -1,8 +1,8 @@
 use Rattle.std.proofs.Common.{◌≡◌, ℕ, zero, suc, ◌+◌, ◌-◌, ◌*◌, Bool, true, false, cond, not, ◌||◌, eqb, refl, sym, ap, ◌∙◌, arith, rules, tests}
 use Rattle.std.specs.List.{list_any, range_with_len}
+use Rattle.std.proofs.lemmas.Iterator.{YieldsList-from_range}
 use Rattle.std.proofs.lemmas.Iterator.Search.{any_from_yields_List}
 use Rattle.std.proofs.lemmas.Bool.{ne_eqb, not_from_false}
-use Rattle.maps.proofs.Spans.{yields_over}
 use Rattle.formats.specs.Scan.{scan, lowest_in}
 use Rattle.block.specs.Layout.{cell_count}
 use Rattle.block.specs.Refusal.{leads_out}
@@ -26,6 +26,5 @@ any_lowest P m = let n : m + 1 - 1 ≡ m - 0 = omega arith in ap (λ k. list_any
 pub returns : goal.returns
 returns c =
     let bs = c.args.self.now.bytes.now in
-    let e = c.new.ensures in
-    any_from_yields_List (leads_out bs) _ _ c.any.result c.any.ensures.ran (yields_over c.new.result 1 (4 * cell_count bs) e.start (omega arith) e.exhausted) (λ x b q k. search (rules, tests))
+    any_from_yields_List (leads_out bs) _ _ c.any.result c.any.ensures.ran (YieldsList-from_range 1 (4 * cell_count bs + 1) (4 * cell_count bs + 1 - 1) (λ i. record { start = 1; end = 4 * c.count.ensures i + 1 }) refl) (λ x b q k. search (rules, tests))
     ∙ any_lowest (leads_out bs) (4 * cell_count bs)
