@@ -1,15 +1,13 @@
--- Iterators over a..=b: the numbers that they give, and what `all` and `find` answer by them.
-use Rattle.std.proofs.Common.{◌≡◌, ℕ, suc, ◌+◌, ◌-◌, ◌<◌, ◌≤◌, Bool, true, false, List, ◌∷◌, length, get_or, Option, Bor, refl, sym, ap, ◌∙◌, subst, arith, MatchBool}
+-- Iterators over a..=b: the numbers that they give, and what `all` answers by them.
+use Rattle.std.proofs.Common.{◌≡◌, ℕ, suc, ◌+◌, ◌-◌, ◌<◌, ◌≤◌, Bool, true, false, List, ◌∷◌, length, get_or, refl, sym, ap, ◌∙◌, subst, arith, MatchBool}
 use Rattle.std.specs.declared.ops.RangeInclusive.{RangeInclusive}
 use Rattle.std.specs.Range.{range_inclusive_start, range_inclusive_end, range_inclusive_exhausted, range_inclusive_len}
-use Rattle.std.specs.Iterator.{ChecksAll, FindsItem}
-use Rattle.std.specs.List.{range_with_len, AllWithin, HoldsAt, find}
-use Rattle.std.specs.Fn.{Called, CalledAt}
+use Rattle.std.specs.Iterator.{ChecksAll}
+use Rattle.std.specs.List.{range_with_len, AllWithin, HoldsAt}
+use Rattle.std.specs.Fn.{Called}
 use Rattle.std.proofs.iter.Yields.{listed}
 use Rattle.std.proofs.iter.runs.Sources.{nat_range_inclusive_steps}
 use Rattle.std.proofs.lemmas.Iterator.{YieldsList, cases_from_all}
-use Rattle.std.proofs.lemmas.Iterator.Adapters.{option_map_id}
-use Rattle.std.proofs.lemmas.Iterator.Search.{find_from_yields_List}
 use Rattle.std.proofs.lemmas.List.FromFn.{length-range_with_len, get_or-range_with_len}
 use denote.Param.Members.{Mut}
 
@@ -61,11 +59,6 @@ module _ (s : RangeInclusive ℕ) (a b : ℕ) (start : range_inclusive_start s �
       → ((x : ℕ) (q : F) → Called g f (x, tt) true q → (q ≡ f) × Yes x) → ((x : ℕ) (q : F) → Called g f (x, tt) false q → No x)
       → MatchBool r ((k : ℕ) → a ≤ k → k ≤ b → Yes k) ((k : ℕ) × No k)
   all_over u f r Yes No d passes fails = all_or r Yes No (cases_from_all u f r Yes No d (yields s) passes fails)
-
-  -- what `find` answers: the first number that passes
-  pub found_over : {F : Type 0} {g : Mut F (Bor ℕ × Unit {0}) Bool} (u : RangeInclusive ℕ) (f : F) (r : Option ℕ) (test : ℕ → Bool) → FindsItem nat_range_inclusive_steps g s f r u
-      → ((x : ℕ) (b : Bool) (q : F) → CalledAt g f x b q → (q ≡ f) × (b ≡ test x)) → r ≡ find test (range_with_len a (b + 1 - a))
-  found_over u f r test d tests = sym (option_map_id r) ∙ find_from_yields_List test u f r d (yields s) tests ∙ ap (find test) is
 
   -- what an adapter takes from it
   pub yields_over : YieldsList nat_range_inclusive_steps (λ x. x) s (range_with_len a (b + 1 - a))

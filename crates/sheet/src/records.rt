@@ -248,7 +248,7 @@ impl<'a> Records<'a> {
         ensures value { result ≡ optional (bad_record self.now.bytes.now) }
         ensures within { IfSome result (HasRecord self.now.bytes.now) }
     {
-        (1..=self.slot_count()).find(|&e| self.is_wrong_record(e))
+        (1..self.slot_count() + 1).find(|&e| self.is_wrong_record(e))
     }
 
     // The lowest record with a wrong link.

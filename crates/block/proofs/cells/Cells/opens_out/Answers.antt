@@ -1,9 +1,9 @@
 use Rattle.std.proofs.Common.{◌≡◌, ℕ, zero, suc, ◌+◌, ◌-◌, ◌*◌, Bool, true, false, cond, not, ◌||◌, eqb, refl, sym, ap, ◌∙◌, arith, rules, tests}
 use Rattle.std.specs.List.{list_any, range_with_len}
-use Rattle.std.proofs.lemmas.Iterator.{YieldsList-from_range}
 use Rattle.std.proofs.lemmas.Iterator.Search.{any_from_yields_List}
 use Rattle.std.proofs.lemmas.Bool.{ne_eqb, not_from_false}
 use Rattle.formats.specs.Scan.{scan, lowest_in}
+use Rattle.formats.proofs.Finds.{yields_after}
 use Rattle.block.specs.Layout.{cell_count}
 use Rattle.block.specs.Refusal.{leads_out}
 use Rattle.block.proofs.cells.Cells.opens_out.Goals as goal
@@ -19,12 +19,9 @@ any_scan P a (suc n) =
     let next : suc a + 1 ≡ suc (suc a) = omega arith in
     ap (λ b. P (suc a) || list_any P (range_with_len b n)) next ∙ some_or (P (suc a)) a (scan P (suc a) n) _ (any_scan P (suc a) n)
 
-any_lowest : (P : ℕ → Bool) (m : ℕ) → list_any P (range_with_len 1 (m + 1 - 1)) ≡ not (eqb (lowest_in P 0 m) 0)
-unfolding lowest_in
-any_lowest P m = let n : m + 1 - 1 ≡ m - 0 = omega arith in ap (λ k. list_any P (range_with_len 1 k)) n ∙ any_scan P 0 (m - 0)
-
 pub returns : goal.returns
+unfolding lowest_in
 returns c =
     let bs = c.args.self.now.bytes.now in
-    any_from_yields_List (leads_out bs) _ _ c.any.result c.any.ensures.ran (YieldsList-from_range 1 (4 * cell_count bs + 1) (4 * cell_count bs + 1 - 1) (λ i. record { start = 1; end = 4 * c.count.ensures i + 1 }) refl) (λ x b q k. search (rules, tests))
-    ∙ any_lowest (leads_out bs) (4 * cell_count bs)
+    any_from_yields_List (leads_out bs) _ _ c.any.result c.any.ensures.ran (yields_after _ 0 (4 * cell_count bs) (omega arith) (omega (arith, c.count.ensures))) (λ x b q k. search (rules, tests))
+    ∙ any_scan (leads_out bs) 0 (4 * cell_count bs - 0)

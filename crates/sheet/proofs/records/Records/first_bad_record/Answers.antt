@@ -7,5 +7,4 @@ use Rattle.sheet.proofs.records.Records.first_bad_record.Goals as goal
 pub returns-clause-value : goal.returns-clause-value
 returns-clause-value c =
     let bs = c.args.self.now.bytes.now in
-    let e = c.new.ensures in
-    found_lowest (wrong_record bs) c.new.result _ 0 (slot_count bs) _ _ e.start (omega arith) e.exhausted c.find.ensures.ran (λ x b q k. search (rules, tests))
+    found_lowest (wrong_record bs) _ _ 0 (slot_count bs) _ _ (omega arith) (omega arith) c.find.ensures.ran (λ x b q k. search (rules, tests))
